@@ -124,7 +124,7 @@ module _ (versions : List Label → ℕ → ℕ) (all : List Label) (h : Setting
   balanced start (Rings row content (Done v) ∷ calls) (p ∷ made) t e k n f =
       omega (arith, balanced start calls made t.3 e.1 k.1 n.1 f.1, quiet row (behind v) true t.0, quiet row (behind (v - 1)) true t.0)
   balanced start (Rings row content (Busy a b) ∷ calls) made t e k n f = balanced start calls made t e k.1 n.1 f.1
-  balanced start (Rings row content (Late a) ∷ calls) made t e k n f = balanced start calls made t e k.1 n.1 f.1
+  balanced start (Rings row content (Late a v) ∷ calls) made t e k n f = balanced start calls made t e k.1 n.1 f.1
   balanced start (Reads row seen ∷ calls) made t e k n f = balanced start calls made t e k.1 n.1 f.1
   balanced start (Loads at v found ∷ calls) made t e k n f = balanced start calls made t e k.1 n.1 f.1
   balanced start (Draws kind ticket ∷ calls) made t e k n f = balanced start calls made t e k.1 n.1 f.1

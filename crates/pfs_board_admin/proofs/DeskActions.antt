@@ -1,13 +1,14 @@
 -- A whole action at a desk: what its calls leave of its beginning, and that its actor keeps to the words of its labels.
 use Rattle.std.specs.Prelude.{IfSome, option_map, unwrap_or}
-use Rattle.std.proofs.Common.{ℕ, zero, suc, ◌≡◌, ◌+◌, ◌<◌, true, cond, List, [], ◌∷◌, ◌++◌, ◌⊎◌, Option, None, Some, inl, inr, length, slice_set, refl, ap, sym, ◌∙◌, subst, arith, append_assoc, append-nil, eq-eqb}
+use Rattle.std.proofs.Common.{ℕ, zero, suc, ◌≡◌, ◌+◌, ◌<◌, ◌≤◌, true, List, [], ◌∷◌, ◌++◌, Option, None, Some, length, refl, ap, sym, ◌∙◌, subst, arith, append_assoc, append-nil}
 use Rattle.atomic_table.specs.Seated.{TableId}
 use Rattle.pfs_admin.specs.declared.changes.Change.{Change}
 use Rattle.pfs_admin.specs.ConnectionAsks.{connect_work, placed_of}
 use Rattle.pfs_admin.specs.Fold.{Follows, StandsFor}
 use Rattle.pfs_admin.specs.AdministrationStates.{State, words_by}
 use Rattle.pfs_admin.proofs.FoldSteps.{fixed_law}
-use Rattle.pfs_admin.specs.Works.{Made, Work, Flagging, signs_calls, signs_of, word_at, set_word, flagging, flagged, flagging_calls, flagging_entries, signs_entries}
+use Rattle.pfs_admin.specs.WordChanges.{flags_changed, words_changed}
+use Rattle.pfs_admin.specs.Works.{Made, Work, Flagging, signs_calls, signs_of, word_at, flagging, flagged, flagging_calls, flagging_entries, signs_entries}
 use Rattle.pfs_board.specs.declared.view.Label.{Label}
 use Rattle.pfs_classes.specs.declared.setting.Setting.{Setting}
 use Rattle.pfs_containers.specs.declared.containers.Seated.{Seated}
@@ -90,40 +91,40 @@ words_wide (suc n) i w = let e = words_wide n (i + 1) w in omega (arith, e)
 pub desk_wide : (setting : Setting) (change : Label → Change) (switches : TableId) (labels : List Label) (admin : State) (pen : Known) → IsDesk setting change switches labels admin pen → length admin.words ≡ 160
 desk_wide setting change switches labels admin pen is = ap (λ (ws : List Word). length ws) (sym is.words_are) ∙ words_wide 160 0 pen.view
 
--- an action sets at most one word, where its flags change
-abbrev pub SetsOne : List Word → List Flagging → List Word → Type 0
-SetsOne words flags after = ((flags ≡ []) × (after ≡ words)) ⊎ ((at : ℕ) × (to : ℕ) × (at < 160) × (flags ≡ flagging words at to) × (after ≡ flagged words at to))
+-- an action sets words one after another, each where its flags change
+pub record SetsEach (words : List Word) (flags : List Flagging) (after : List Word) : Type 0 where
+  pub to : ℕ → ℕ → ℕ
+  pub first : ℕ
+  pub count : ℕ
+  pub low : first + count ≤ 160
+  pub flags_are : flags ≡ flags_changed to words first count
+  pub words_are : after ≡ words_changed to words first count
 
-pub no_flag : (words : List Word) (at : ℕ) → (flagging words at (word_at words at).flags ≡ []) × (flagged words at (word_at words at).flags ≡ words)
-no_flag words at =
-    let same = eq-eqb (word_at words at).flags (word_at words at).flags refl in (
-      ap (λ b. cond b [] (record { word = at; flags = (word_at words at).flags } ∷ [])) same,
-      ap (λ b. cond b words (slice_set words at (set_word (word_at words at) (word_at words at).flags))) same,
-    )
+pub sets_none : (words : List Word) → SetsEach words [] words
+unfolding flags_changed words_changed
+sets_none words = record { to = λ word flags. flags; first = 0; count = 0; low = omega arith; flags_are = refl; words_are = refl }
 
-pub worked : (setting : Setting) (change : Label → Change) (calls : List Call) (words after : List Word) (flags : List Flagging) (made : List Made) (moves : List Move) → SetsOne words flags after
+pub sets_one : (words : List Word) (at to : ℕ) → at < 160 → SetsEach words (flagging words at to) (flagged words at to)
+unfolding flags_changed words_changed
+sets_one words at to low =
+    let e : at ≡ at + 0 = omega arith in
+    record { to = λ word flags. to; first = at; count = 1; low = omega (arith, low); flags_are = ap (λ z. flagging words z to) e; words_are = ap (λ z. flagged words z to) e }
+
+pub worked : (setting : Setting) (change : Label → Change) (calls : List Call) (words after : List Word) (flags : List Flagging) (made : List Made) (moves : List Move) → SetsEach words flags after
     → length words ≡ 160 → has_met calls ≡ true → AllKeepWords (version_after setting change) calls → AreAsKnown (version_after setting change) calls words
     → AllKeepWords (version_after setting change) (its_of words flags made moves ++ calls) × AreAsKnown (version_after setting change) (its_of words flags made moves ++ calls) after
-worked setting change calls words after flags made moves one wide met keeps known =
+worked setting change calls words after flags made moves each wide met keeps known =
     let versions = version_after setting change in
     let quiet : List Call = signs_calls made ++ moves_calls moves in
     let P : List Word → Type 0 = λ ws. AllKeepWords versions (its_of words flags made moves ++ calls) × AreAsKnown versions (its_of words flags made moves ++ calls) ws in
-    elim one [
-      | inl none ↦
-          let to = (word_at words 0).flags in
-          let off = no_flag words 0 in
-          subst P (off.1 ∙ sym none.1) (work setting change calls words 0 to made moves (omega arith) wide met keeps known (its_of words flags made moves)
-          (ap (λ fs. flagging_calls words fs ++ quiet) (none.0 ∙ sym off.0)))
-      | inr some ↦
-          subst P (sym some.4) (work setting change calls words some.0 some.1 made moves some.2 wide met keeps known (its_of words flags made moves)
-          (ap (λ fs. flagging_calls words fs ++ quiet) some.3))
-    ]
+    subst P (sym each.words_are) (work setting change calls words each.to each.first each.count made moves each.low wide met keeps known (its_of words flags made moves)
+    (ap (λ fs. flagging_calls words fs ++ quiet) each.flags_are))
 
 -- a connect sets the word of its thread alone
 pub connect_sets : (words : List Word) (flags : ℕ) (after : Containers) (seat : Option Seated) → IfSome (placed_of seat).thread (λ n. n < 32)
-    → SetsOne words (connect_work words flags after seat).flags (words_by words flags seat)
-connect_sets words flags after None low = inl (refl, refl)
-connect_sets words flags after (Some seat) low = inr (1 + seat.slot, flags, omega (arith, low), refl, refl)
+    → SetsEach words (connect_work words flags after seat).flags (words_by words flags seat)
+connect_sets words flags after None low = sets_none words
+connect_sets words flags after (Some seat) low = sets_one words (1 + seat.slot) flags (omega (arith, low))
 
 -- the administration, and the writer that a hold gave back, are a desk again
 pub again : (setting : Setting) (change : Label → Change) (switches : TableId) (labels : List Label) (admin next : State) (later w : Known) (lent : Option Known) (told : Option (List Word))
@@ -173,9 +174,9 @@ pub acted : (setting : Setting) (change : Label → Change) (switches : TableId)
     (head : State → List Entry) (before after : List Entry)
     → after ≡ before ++ (head admin ++ (moves_entries moves ++ (signs_entries made ++ flagging_entries admin.words (what admin).flags)))
     → IsDesk setting change switches labels admin pen → IsDesk setting change switches (labels ++ label ∷ []) next later → AreMoves (what admin).moves moves → signs_of made ≡ (what admin).signs
-    → SetsOne admin.words (what admin).flags next.words
+    → SetsEach admin.words (what admin).flags next.words
     → HasActed setting change label what head admin calls (Leaves ∷ calls_of label labels pen.view.seen calls (its_of admin.words (what admin).flags made moves)) before after
-acted setting change switches label what labels admin next pen later calls moves made head before after written is then are_moves are_signs one =
+acted setting change switches label what labels admin next pen later calls moves made head before after written is then are_moves are_signs sets =
     let its : List Call = its_of admin.words (what admin).flags made moves in
     let first : List Call = Meets pen.view.seen ∷ Enters label labels ∷ calls in
     record {
@@ -190,7 +191,7 @@ acted setting change switches label what labels admin next pen later calls moves
       entries_are = written;
       keeps = λ outside keeps.
           let b = begun setting change switches label labels calls admin pen outside keeps is in
-          let w = worked setting change first admin.words next.words (what admin).flags made moves one (desk_wide setting change switches labels admin pen is) refl b.0 b.1 in
+          let w = worked setting change first admin.words next.words (what admin).flags made moves sets (desk_wide setting change switches labels admin pen is) refl b.0 b.1 in
           left setting change switches (its ++ first) next later w.0 w.1
           (ended setting change switches label labels next later admin.words (what admin).flags made moves pen.view.seen calls then);
     }

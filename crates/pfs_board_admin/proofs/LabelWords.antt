@@ -1,9 +1,11 @@
 -- What an action tells of the words keeps its actor to those of its labels.
-use Rattle.std.proofs.Common.{ℕ, ◌≡◌, ◌+◌, ◌==◌, ◌<◌, Bool, true, false, cond, List, [], ◌∷◌, ◌++◌, Some, length, slice_index, slice_set, refl, ap, sym, ◌∙◌, subst, inl, inr, arith, append_assoc}
+use Rattle.std.proofs.Common.{ℕ, zero, suc, ◌≡◌, ◌+◌, ◌==◌, ◌<◌, ◌≤◌, Bool, true, false, cond, List, [], ◌∷◌, ◌++◌, Some, length, slice_index, slice_set, refl, ap, sym, ◌∙◌, subst, inl, inr, arith, append_assoc}
 use Rattle.std.proofs.lemmas.Bool.{cases_eq}
 use Rattle.std.proofs.lemmas.List.{get_or-set_other, get_or-set_same}
 use Rattle.pfs_admin.specs.AdministrationStates.{State}
-use Rattle.pfs_admin.specs.Works.{Sign, Releases, Tags, Made, sign_calls, signs_calls, word_at, set_word, flagging_calls}
+use Rattle.pfs_admin.specs.WordChanges.{change_at, changed_up_to, flags_changed, up_to, words_changed}
+use Rattle.pfs_admin.specs.Works.{Flagging, Sign, Releases, Tags, Made, sign_calls, signs_calls, word_at, set_word, flagged, flagging, flagging_calls}
+use Rattle.pfs_admin.proofs.WordChanges.{changed_past, changed_wide}
 use Rattle.pfs_board.specs.declared.view.Label.{Label}
 use Rattle.pfs_levels.specs.declared.answers.Word.{Word}
 use Rattle.pfs_levels.specs.Calls.{Call, Takes, Puts, Frees, Sets, known_version}
@@ -83,23 +85,56 @@ set_known versions calls words at to q low known here less =
           omega (arith, known q less, now, away_if at q (sets_since calls q + 1) (sets_since calls q) apart)
     ]
 
-flag : (versions : List Label → ℕ → ℕ) (calls : List Call) (words : List Word) (at to : ℕ) (b : Bool) → at < 160 → length words ≡ 160 → has_met calls ≡ true → AllKeepWords versions calls → AreAsKnown versions calls words
-    → AllKeepWords versions (flagging_calls words (cond b [] (record { word = at; flags = to } ∷ [])) ++ calls)
-    × AreAsKnown versions (flagging_calls words (cond b [] (record { word = at; flags = to } ∷ [])) ++ calls) (cond b words (slice_set words at (set_word (word_at words at) to)))
-flag versions calls words at to true low wide met keeps known = (keeps, known)
-flag versions calls words at to false low wide met keeps known =
-    (((low, met, ap (λ n. n + 1) (sym (known at low))), keeps), λ q less. set_known versions calls words at to q (omega (arith, low, wide)) known low less)
+-- behind such calls an actor has kept to the words of its labels, which are these
+record HasKept (versions : List Label → ℕ → ℕ) (calls : List Call) (words : List Word) : Type 0 where
+  pub keeps : AllKeepWords versions calls
+  pub known : AreAsKnown versions calls words
+  pub met : has_met calls ≡ true
+
+-- a word that none of the flaggings before set
+flag : (versions : List Label → ℕ → ℕ) (calls : List Call) (words now : List Word) (at to : ℕ) (b : Bool) → at < 160 → length now ≡ 160 → word_at now at ≡ word_at words at → HasKept versions calls now
+    → HasKept versions (flagging_calls words (cond b [] (record { word = at; flags = to } ∷ [])) ++ calls) (cond b now (slice_set now at (set_word (word_at now at) to)))
+flag versions calls words now at to true low wide same has = has
+flag versions calls words now at to false low wide same has = record {
+  keeps = ((low, has.met, ap (λ (w : Word). w.version + 1) (sym same) ∙ ap (λ n. n + 1) (sym (has.known at low))), has.keeps);
+  known = λ q less. set_known versions calls now at to q (omega (arith, low, wide)) has.known low less;
+  met = has.met;
+}
+
+calls_behind : (words : List Word) (xs ys : List Flagging) (calls : List Call) → flagging_calls words (xs ++ ys) ++ calls ≡ flagging_calls words ys ++ (flagging_calls words xs ++ calls)
+calls_behind words [] ys calls = refl
+calls_behind words (x ∷ xs) ys calls =
+    let set : Call = Sets x.word x.flags ((word_at words x.word).version + 1) in
+    append_assoc (flagging_calls words (xs ++ ys)) (set ∷ []) calls
+    ∙ (calls_behind words xs ys (set ∷ calls) ∙ ap (λ z. flagging_calls words ys ++ z) (sym (append_assoc (flagging_calls words xs) (set ∷ []) calls)))
+
+-- so many words, one after another
+flags_kept : (versions : List Label → ℕ → ℕ) (calls : List Call) (words : List Word) (to : ℕ → ℕ → ℕ) (first n : ℕ) → first + n ≤ 160 → length words ≡ 160 → HasKept versions calls words
+    → HasKept versions (flagging_calls words (up_to (change_at to words first) n) ++ calls) (changed_up_to to words first n)
+flags_kept versions calls words to first zero low wide has = has
+flags_kept versions calls words to first (suc n) low wide has =
+    let at : ℕ = first + n in
+    let flags : ℕ = to at (word_at words at).flags in
+    let xs : List Flagging = up_to (change_at to words first) n in
+    let before : List Word = changed_up_to to words first n in
+    let same : word_at before at ≡ word_at words at = changed_past to words first n at (omega arith) in
+    let P : Bool → Type 0 = λ b. HasKept versions (flagging_calls words (flagging words at flags) ++ (flagging_calls words xs ++ calls)) (cond b before (slice_set before at (set_word (word_at before at) flags))) in
+    let Q : List Call → Type 0 = λ z. HasKept versions z (flagged before at flags) in
+    subst Q (sym (calls_behind words xs (flagging words at flags) calls))
+    (subst P (ap (λ (w : Word). w.flags == flags) (sym same))
+    (flag versions (flagging_calls words xs ++ calls) words before at flags ((word_at words at).flags == flags) (omega (arith, low)) (changed_wide to words first n ∙ wide) same
+    (flags_kept versions calls words to first n (omega (arith, low)) wide has)))
 
 pub work : WorkLaw
-work setting change calls words at to made moves low wide met keeps known its is =
+unfolding flags_changed words_changed
+work setting change calls words to first count made moves low wide met keeps known its is =
     let versions = version_after setting change in
     let quiet : List Call = signs_calls made ++ moves_calls moves in
     let i = still versions quiet calls (quiet_both (signs_calls made) (moves_calls moves) (signs_quiet made) (moves_quiet moves)) in
-    let set : List Call = flagging_calls words (cond ((word_at words at).flags == to) [] (record { word = at; flags = to } ∷ [])) in
-    let P : List Call → Type 0 = λ z. AllKeepWords versions z × AreAsKnown versions z (cond ((word_at words at).flags == to) words (slice_set words at (set_word (word_at words at) to))) in
-    subst P (sym (append_assoc set quiet calls) ∙ ap (λ z. z ++ calls) (sym is)) (
-    flag versions (quiet ++ calls) words at to ((word_at words at).flags == to) low wide (i.met ∙ met) (i.keeps keeps) (λ q less. i.same q ∙ known q less)
-    )
+    let set : List Call = flagging_calls words (up_to (change_at to words first) count) in
+    let P : List Call → Type 0 = λ z. AllKeepWords versions z × AreAsKnown versions z (changed_up_to to words first count) in
+    let has = flags_kept versions (quiet ++ calls) words to first count low wide (record { keeps = i.keeps keeps; known = λ q less. i.same q ∙ known q less; met = i.met ∙ met }) in
+    subst P (sym (append_assoc set quiet calls) ∙ ap (λ z. z ++ calls) (sym is)) (has.keeps, has.known)
 
 pub left : LeftLaw
 left setting change switches calls next later keeps known is = (

@@ -69,7 +69,7 @@ module _ (setting : Setting) (change : Label → Action) (first : List Label) wh
     since start (Frees row v ∷ calls) (p ∷ made) t k b = (tt, since start calls made t.4 k.1 b.1)
     since start (Adds row amount (Held r x y) ∷ calls) made t k b = (tt, since start calls made t k.1 b.1)
     since start (Rings row content (Busy x y) ∷ calls) made t k b = (tt, since start calls made t k.1 b.1)
-    since start (Rings row content (Late x) ∷ calls) made t k b = (tt, since start calls made t k.1 b.1)
+    since start (Rings row content (Late x v) ∷ calls) made t k b = (tt, since start calls made t k.1 b.1)
     since start (Reads row seen ∷ calls) made t k b = (tt, since start calls made t k.1 b.1)
     since start (Loads w v x ∷ calls) made t k b = (tt, since start calls made t k.1 b.1)
     since start (Draws kind ticket ∷ calls) made t k b = (tt, since start calls made t k.1 b.1)

@@ -87,7 +87,7 @@ module _ (versions : List Label → ℕ → ℕ) (rises : (labels : List Label) 
     small start (Frees row v ∷ calls) (p ∷ made) t e k n b = small start calls made t.4 e.1 k.1 n.1 b
     small start (Adds row amount (Held q a c) ∷ calls) made t e k n b = small start calls made t e k.1 n.1 b
     small start (Rings row content (Busy a c) ∷ calls) made t e k n b = small start calls made t e k.1 n.1 b
-    small start (Rings row content (Late a) ∷ calls) made t e k n b = small start calls made t e k.1 n.1 b
+    small start (Rings row content (Late a v) ∷ calls) made t e k n b = small start calls made t e k.1 n.1 b
     small start (Reads row seen ∷ calls) made t e k n b = small start calls made t e k.1 n.1 b
     small start (Draws kind ticket ∷ calls) made t e k n b = small start calls made t e k.1 n.1 b
     small start (Takes row v found ∷ calls) made t e k n b = small start calls made t.2 e k.1 n.1 b
@@ -154,7 +154,7 @@ module _ (versions : List Label → ℕ → ℕ) (rises : (labels : List Label) 
       knows start (Frees row v ∷ calls) (p ∷ made) t e r k n = (tt, knows start calls made t.4 e.1 r.1 k.1 n.1)
       knows start (Adds row amount (Held q a c) ∷ calls) made t e r k n = (tt, knows start calls made t e r.1 k.1 n.1)
       knows start (Rings row content (Busy a c) ∷ calls) made t e r k n = (tt, knows start calls made t e r.1 k.1 n.1)
-      knows start (Rings row content (Late a) ∷ calls) made t e r k n = (tt, knows start calls made t e r.1 k.1 n.1)
+      knows start (Rings row content (Late a v) ∷ calls) made t e r k n = (tt, knows start calls made t e r.1 k.1 n.1)
       knows start (Reads row seen ∷ calls) made t e r k n = (tt, knows start calls made t e r.1 k.1 n.1)
       knows start (Draws kind ticket ∷ calls) made t e r k n = (tt, knows start calls made t e r.1 k.1 n.1)
       knows start (Takes row v found ∷ calls) made t e r k n = (tt, knows start calls made t.2 e r.1 k.1 n.1)

@@ -1,11 +1,12 @@
 -- Laws of a desk.
-use Rattle.std.specs.Prelude.{ℕ, ◌≡◌, ◌<◌, true, ◌+◌, ◌^◌, List, [], ◌∷◌, ◌++◌, length, slice_index}
+use Rattle.std.specs.Prelude.{ℕ, ◌≡◌, ◌<◌, ◌≤◌, true, ◌+◌, ◌^◌, List, [], ◌∷◌, ◌++◌, length, slice_index}
 use Rattle.atomic_table.specs.Seated.{TableId}
 use Rattle.pfs_admin.specs.declared.changes.Change.{Change}
 use Rattle.pfs_admin.specs.Fold.{Follows}
 use Rattle.pfs_admin.specs.OpeningState.{opening_flags}
 use Rattle.pfs_admin.specs.AdministrationStates.{State}
-use Rattle.pfs_admin.specs.Works.{Made, signs_calls, flagging, flagged, flagging_calls}
+use Rattle.pfs_admin.specs.WordChanges.{flags_changed, words_changed}
+use Rattle.pfs_admin.specs.Works.{Made, signs_calls, flagging_calls}
 use Rattle.pfs_board.specs.declared.view.Change.{Change as Entry}
 use Rattle.pfs_board.specs.declared.view.Label.{Label}
 use Rattle.pfs_board.specs.declared.view.View.{View}
@@ -73,15 +74,16 @@ BegunLaw = (setting : Setting) → (change : Label → Change) → (switches : T
     → AllKeepWords (version_after setting change) (Meets pen.view.seen ∷ Enters label labels ∷ calls)
     × AreAsKnown (version_after setting change) (Meets pen.view.seen ∷ Enters label labels ∷ calls) admin.words
 
--- an administration's work: rows that are moved, released and written, and a word that is set where its flags change
+-- an administration's work: rows that are moved, released and written, and words that are set one after another, each
+-- where its flags change. A connect and a quit set one; a truncation and a statement on a setup table set up to 64
 abbrev pub WorkLaw : Type 0
-WorkLaw = (setting : Setting) → (change : Label → Change) → (calls : List Call) → (words : List Word) → (at to : ℕ)
-    → (made : List Made) → (moves : List Move) → at < 160 → length words ≡ 160 → has_met calls ≡ true
-    → AllKeepWords (version_after setting change) calls → AreAsKnown (version_after setting change) calls words
-    → (its : List Call) → its
-    ≡ flagging_calls words (flagging words at to) ++ (signs_calls made ++ moves_calls moves)
+WorkLaw = (setting : Setting) → (change : Label → Change) → (calls : List Call) → (words : List Word)
+    → (to : ℕ → ℕ → ℕ) → (first count : ℕ) → (made : List Made) → (moves : List Move) → first + count ≤ 160
+    → length words ≡ 160 → has_met calls ≡ true → AllKeepWords (version_after setting change) calls
+    → AreAsKnown (version_after setting change) calls words → (its : List Call) → its
+    ≡ flagging_calls words (flags_changed to words first count) ++ (signs_calls made ++ moves_calls moves)
     → AllKeepWords (version_after setting change) (its ++ calls)
-    × AreAsKnown (version_after setting change) (its ++ calls) (flagged words at to)
+    × AreAsKnown (version_after setting change) (its ++ calls) (words_changed to words first count)
 
 -- as an action ends with a desk that stands for its own label too, its words are those of that
 abbrev pub LeftLaw : Type 0

@@ -27,7 +27,7 @@ pub fn shared()
 {}
 
 /// An actor keeps to the words of its labels from the beginning of an action, as `enter` and a hold that is lent the
-/// writer tell it, over a connect or a quit, as these tell their work, to the end, as `leave` asks for it.
+/// writer tell it, over its work, as an administration's calls tell theirs, to the end, as `leave` asks for it.
 pub fn keeping()
     ensures begun { BegunLaw }
     ensures work { WorkLaw }

@@ -1,16 +1,18 @@
-//! A session's connect, its end and its pause over a board.
+//! A session's actions over a board, and its pause there.
 
-ghost use Rattle.std.specs.Prelude.{◌≡◌, ◌<◌, ◌≤◌, ◌+◌, ◌^◌, ◌∷◌, [], ℕ, IfSome, List, None, length};
-ghost use Rattle.pfs_admin.specs.declared.changes.Change.TheVariants.{Connect, Quit};
-ghost use Rattle.pfs_admin.specs.AdministrationStates.{State};
+ghost use Rattle.std.specs.Prelude.{◌≡◌, ◌<◌, ◌≤◌, ◌+◌, ◌^◌, ◌∷◌, [], ℕ, List, None, length};
+ghost use Rattle.pfs_admin.specs.declared.changes.Change.TheVariants.{Connect, Quit, Setup, Truncate};
+ghost use Rattle.pfs_admin.specs.SetupStatements.{most_of};
 ghost use Rattle.pfs_law_plain.specs.Spells.{label_of};
 ghost use Rattle.pfs_levels.specs.Calls.{Call, Opening};
+ghost use Rattle.pfs_levels.specs.Views.{Used};
 ghost use Rattle.pfs_session.specs.Settlements.{owed_by_state, settle_cost};
 ghost use Rattle.pfs_session.specs.SessionStates.{no_place, nothing_held};
-ghost use Rattle.pfs_session.specs.Turns.{Connects, Played, Quits, SettlesHeld};
-ghost use Rattle.pfs_board_session.specs.SessionActions.{HasActed, IsIdle, IsIdleAgain, KeepsToWords};
+ghost use Rattle.pfs_session.specs.Turns.{Changes, Connects, Played, Quits, SettlesHeld, Truncates};
+ghost use Rattle.pfs_board_session.specs.SessionActions.{HasActed, IsIdle};
 
 use crate::desks::{begin, finish};
+use pfs_admin::{SetupStatement, Truncation};
 use pfs_board::Kept;
 use pfs_board_admin::{Desk, Shared};
 use pfs_board_store::{BoardHold, BoardRows};
@@ -37,11 +39,9 @@ pub fn connect<'a, R: Wait, N: Shared>(
     requires idle { IsIdle 5 6 (⟦<BoardRows<'a, Desk<N>> as Rows>⟧.seen rows) session.old }
     requires begun { (start : Opening) × (calls : List Call)
         × ((⟦<BoardRows<'a, Desk<N>> as Rows>⟧.seen rows).reached start calls) × (start.switches.table ≡ N.switches) }
-    ensures acted { (start : Opening) → (calls : List Call)
-        → (⟦<BoardRows<'a, Desk<N>> as Rows>⟧.seen rows.entry).reached start calls → (more : List Call)
-        × (admin : State) × (⟦<BoardRows<'a, Desk<N>> as Rows>⟧.seen result).reached start more × HasActed N.setting
-        N.change (Connects admin user host ∷ []) admin session.old session.new calls more × KeepsToWords N.setting
-        N.change calls more }
+    ensures acted { HasActed N.setting N.change (λ admin. Connects admin user host ∷ []) session.old session.new
+        (⟦<BoardRows<'a, Desk<N>> as Rows>⟧.seen rows.entry).reached
+        (⟦<BoardRows<'a, Desk<N>> as Rows>⟧.seen result).reached }
     ensures rest { session.new.state ≡ record session.old.state {
       place = session.new.state.place;
       actions = 1;
@@ -49,8 +49,9 @@ pub fn connect<'a, R: Wait, N: Shared>(
     } }
     ensures held { session.new.state.held ≡ nothing_held }
     ensures owed { owed_by_state session.new.state ≡ [] }
-    ensures idle { IsIdleAgain 5 6 (⟦<BoardRows<'a, Desk<N>> as Rows>⟧.seen rows.entry)
-        (⟦<BoardRows<'a, Desk<N>> as Rows>⟧.seen result) session.old session.new }
+    ensures hand { (r : ℕ) → (⟦<BoardRows<'a, Desk<N>> as Rows>⟧.seen result).hand r ≡ None }
+    ensures used { Used 5 0 6 (⟦<BoardRows<'a, Desk<N>> as Rows>⟧.seen rows.entry)
+        (⟦<BoardRows<'a, Desk<N>> as Rows>⟧.seen result) session.old.journal session.new.journal }
 {
     let (mut admin, mut hold) = begin(rt, rows, session.label());
     session.connect(&mut hold, &mut admin, user, host);
@@ -71,23 +72,89 @@ pub fn quit<'a, R: Wait, N: Shared>(
         (owed_by_state session.old.state) + 254) (⟦<BoardRows<'a, Desk<N>> as Rows>⟧.seen rows) session.old }
     requires begun { (start : Opening) × (calls : List Call)
         × ((⟦<BoardRows<'a, Desk<N>> as Rows>⟧.seen rows).reached start calls) × (start.switches.table ≡ N.switches) }
-    ensures acted { (start : Opening) → (calls : List Call)
-        → (⟦<BoardRows<'a, Desk<N>> as Rows>⟧.seen rows.entry).reached start calls → (more : List Call)
-        × (admin : State) × (⟦<BoardRows<'a, Desk<N>> as Rows>⟧.seen result).reached start more × HasActed N.setting
-        N.change (SettlesHeld ∷ Quits admin ∷ []) admin session.old session.new calls more × KeepsToWords N.setting
-        N.change calls more }
+    ensures acted { HasActed N.setting N.change (λ admin. SettlesHeld ∷ Quits admin ∷ []) session.old
+        session.new (⟦<BoardRows<'a, Desk<N>> as Rows>⟧.seen rows.entry).reached
+        (⟦<BoardRows<'a, Desk<N>> as Rows>⟧.seen result).reached }
     ensures rest { session.new.state ≡ record session.old.state {
       place = no_place;
       held = nothing_held;
       actions = session.old.state.actions + 1;
       last = session.new.state.last;
     } }
-    ensures idle { IsIdleAgain (length (owed_by_state session.old.state) + 253) (settle_cost
+    ensures hand { (r : ℕ) → (⟦<BoardRows<'a, Desk<N>> as Rows>⟧.seen result).hand r ≡ None }
+    ensures used { Used (length (owed_by_state session.old.state) + 253) 0 (settle_cost
         (owed_by_state session.old.state) + 254) (⟦<BoardRows<'a, Desk<N>> as Rows>⟧.seen rows.entry)
-        (⟦<BoardRows<'a, Desk<N>> as Rows>⟧.seen result) session.old session.new }
+        (⟦<BoardRows<'a, Desk<N>> as Rows>⟧.seen result) session.old.journal session.new.journal }
 {
     let (mut admin, mut hold) = begin(rt, rows, session.label());
     session.quit(&mut hold, &mut admin);
+    finish(hold, admin)
+}
+
+/// Truncates a table, an action: the store again. It waits until no other action is under way. What the session holds
+/// back is settled first; the log gets the answer, which is 0.
+pub fn truncate<'a, R: Wait, N: Shared>(
+    rt: &R,
+    rows: BoardRows<'a, Desk<N>>,
+    session: &mut Session,
+    what: Truncation,
+) -> BoardRows<'a, Desk<N>>
+    requires named { N.change (label_of session.old.state) ≡ Truncate what }
+    requires early { session.old.state.actions + 1 < 2 ^ 64 }
+    requires idle { IsIdle (length (owed_by_state session.old.state) + 19_203) (settle_cost
+        (owed_by_state session.old.state) + 19_204) (⟦<BoardRows<'a, Desk<N>> as Rows>⟧.seen rows) session.old }
+    requires begun { (start : Opening) × (calls : List Call)
+        × ((⟦<BoardRows<'a, Desk<N>> as Rows>⟧.seen rows).reached start calls) × (start.switches.table ≡ N.switches) }
+    ensures acted { HasActed N.setting N.change (λ admin. SettlesHeld ∷ Truncates admin what ∷ []) session.old
+        session.new (⟦<BoardRows<'a, Desk<N>> as Rows>⟧.seen rows.entry).reached
+        (⟦<BoardRows<'a, Desk<N>> as Rows>⟧.seen result).reached }
+    ensures rest { session.new.state ≡ record session.old.state {
+      held = nothing_held;
+      actions = session.old.state.actions + 1;
+      last = session.new.state.last;
+    } }
+    ensures hand { (r : ℕ) → (⟦<BoardRows<'a, Desk<N>> as Rows>⟧.seen result).hand r ≡ None }
+    ensures used { Used (length (owed_by_state session.old.state) + 19_203) 0 (settle_cost
+        (owed_by_state session.old.state) + 19_204) (⟦<BoardRows<'a, Desk<N>> as Rows>⟧.seen rows.entry)
+        (⟦<BoardRows<'a, Desk<N>> as Rows>⟧.seen result) session.old.journal session.new.journal }
+{
+    let (mut admin, mut hold) = begin(rt, rows, session.label());
+    // The most that it may come to is asked for the law that comes with it.
+    let _ = admin.truncation_cost(what);
+    session.truncate(&mut hold, &mut admin, what);
+    finish(hold, admin)
+}
+
+/// Does a statement on a setup table, an action: the store again. It waits until no other action is under way. What the
+/// session holds back is settled first; the log gets the answer.
+pub fn act<'a, R: Wait, N: Shared>(
+    rt: &R,
+    rows: BoardRows<'a, Desk<N>>,
+    session: &mut Session,
+    what: SetupStatement,
+) -> BoardRows<'a, Desk<N>>
+    requires named { N.change (label_of session.old.state) ≡ Setup what }
+    requires early { session.old.state.actions + 1 < 2 ^ 64 }
+    requires idle { IsIdle (length (owed_by_state session.old.state) + 1) (settle_cost
+        (owed_by_state session.old.state) + (most_of what + 2)) (⟦<BoardRows<'a, Desk<N>> as Rows>⟧.seen rows)
+        session.old }
+    requires begun { (start : Opening) × (calls : List Call)
+        × ((⟦<BoardRows<'a, Desk<N>> as Rows>⟧.seen rows).reached start calls) × (start.switches.table ≡ N.switches) }
+    ensures acted { HasActed N.setting N.change (λ admin. SettlesHeld ∷ Changes admin what ∷ []) session.old
+        session.new (⟦<BoardRows<'a, Desk<N>> as Rows>⟧.seen rows.entry).reached
+        (⟦<BoardRows<'a, Desk<N>> as Rows>⟧.seen result).reached }
+    ensures rest { session.new.state ≡ record session.old.state {
+      held = nothing_held;
+      actions = session.old.state.actions + 1;
+      last = session.new.state.last;
+    } }
+    ensures hand { (r : ℕ) → (⟦<BoardRows<'a, Desk<N>> as Rows>⟧.seen result).hand r ≡ None }
+    ensures used { Used (length (owed_by_state session.old.state) + 1) 0 (settle_cost
+        (owed_by_state session.old.state) + (most_of what + 2)) (⟦<BoardRows<'a, Desk<N>> as Rows>⟧.seen rows.entry)
+        (⟦<BoardRows<'a, Desk<N>> as Rows>⟧.seen result) session.old.journal session.new.journal }
+{
+    let (mut admin, mut hold) = begin(rt, rows, session.label());
+    session.act(&mut hold, &mut admin, what);
     finish(hold, admin)
 }
 

@@ -39,6 +39,8 @@ pub(crate) fn begin<'a, 'b, R: Wait, N: Shared>(
     ensures alone { (r : ℕ) → 0 < r → (⟦<BoardHold<'a, 'b, R, Desk<N>> as Rows>⟧.seen result.1).hand r ≡ None }
     ensures left { (⟦<BoardRows<'b, Desk<N>> as Rows>⟧.seen rows.entry).left
         ≤ (⟦<BoardHold<'a, 'b, R, Desk<N>> as Rows>⟧.seen result.1).left + 1 }
+    ensures draws { (⟦<BoardHold<'a, 'b, R, Desk<N>> as Rows>⟧.seen result.1).draws
+        ≡ (⟦<BoardRows<'b, Desk<N>> as Rows>⟧.seen rows.entry).draws }
 {
     let mut rows = rows;
     let (_, desk) = rows.enter(rt, label);
@@ -67,6 +69,8 @@ pub(crate) fn finish<'a, 'b, R: Wait, N: Shared>(
     ensures hand { (r : ℕ) → (⟦<BoardRows<'b, Desk<N>> as Rows>⟧.seen result).hand r ≡ None }
     ensures left { (⟦<BoardRows<'b, Desk<N>> as Rows>⟧.seen result).left
         ≡ (⟦<BoardHold<'a, 'b, R, Desk<N>> as Rows>⟧.seen hold.entry).left }
+    ensures draws { (⟦<BoardRows<'b, Desk<N>> as Rows>⟧.seen result).draws
+        ≡ (⟦<BoardHold<'a, 'b, R, Desk<N>> as Rows>⟧.seen hold.entry).draws }
 {
     let (mut rows, lent) = hold.into_parts();
     match lent {

@@ -3,5 +3,10 @@
 
 mod actions;
 mod desks;
+mod showing;
 
-pub use actions::{connect, pause, quit};
+pub use actions::{act, connect, pause, quit, truncate};
+pub use showing::show_held;
+
+/// Memory ran out.
+pub type NoMemory = std::alloc::AllocError;

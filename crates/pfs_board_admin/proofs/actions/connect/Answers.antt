@@ -7,7 +7,7 @@ use Rattle.pfs_admin.specs.AdministrationStates.{State, connected, seat_at, thre
 use Rattle.pfs_levels.specs.declared.answers.Word.{Word}
 use Rattle.pfs_levels.specs.Calls.{Enters}
 use Rattle.pfs_switches.specs.SeatViews.{Known}
-use Rattle.pfs_board_admin.proofs.DeskActions.{SetsOne, acted, connect_sets, ended, followed, named, returned, same_desk}
+use Rattle.pfs_board_admin.proofs.DeskActions.{SetsEach, acted, connect_sets, ended, followed, named, returned, same_desk}
 use Rattle.pfs_board_admin.proofs.QuietActions.{few_actions}
 use Rattle.pfs_board_admin.proofs.actions.connect.Goals as goal
 
@@ -70,12 +70,12 @@ returns-clause-acted g c = λ start calls reached.
     let done = worked.did.goes start _ (c.new-hold.ensures.call start (Enters c.args.label entered.0 ∷ calls) entered.1.2) in
     let low = subst (λ (p : Placed). IfSome p.thread (λ n. n < 32)) c.connect-placed.ensures.placed c.connect-placed.ensures.slot in
     let words = ap (λ (s : State). s.words) (c.new.ensures.admin ∙ c.connect-placed.ensures.step) in
-    let one = subst (λ (ws : List Word). SetsOne old.words what.flags ws) (sym words)
+    let sets_each = subst (λ (ws : List Word). SetsEach old.words what.flags ws) (sym words)
     (connect_sets old.words (thread_flags old c.args.user c.args.host) (connected old c.args.label.session c.args.user c.args.host).kept.now (seat_at old c.args.label.session c.args.user c.args.host) low) in (
       _,
       old,
       c.leave.ensures.call start _ (c.into_parts-rows.ensures.call start _ done),
       acted g.N.Named.setting g.N.Named.change g.N.Shared.switches c.args.label (λ s. work_of_connect s c.args.label.session c.args.user c.args.host) entered.0 old _ _ _ calls worked.moves worked.made
-          (λ s. connect_entry (s.actions + 1) (seat_at s c.args.label.session c.args.user c.args.host) ∷ []) _ _ worked.did.entries_are is then worked.are_moves worked.signs_are one,
+          (λ s. connect_entry (s.actions + 1) (seat_at s c.args.label.session c.args.user c.args.host) ∷ []) _ _ worked.did.entries_are is then worked.are_moves worked.signs_are sets_each,
       c.connect-placed.ensures.placed,
     )

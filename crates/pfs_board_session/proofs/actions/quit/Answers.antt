@@ -1,12 +1,11 @@
-use Rattle.std.proofs.Common.{List, arith, ap, subst, sym, ◌∙◌}
-use Rattle.pfs_admin.specs.ConnectionAsks.{work_of_quit}
+use Rattle.std.proofs.Common.{ap, arith, refl, sym, ◌∙◌}
 use Rattle.pfs_admin.specs.declared.changes.Change.TheVariants.{Quit}
-use Rattle.pfs_admin.specs.AdministrationStates.{State as Administration, has_quit, seat_in}
-use Rattle.pfs_board_admin.proofs.DeskActions.{SetsOne, desk_wide}
+use Rattle.pfs_admin.specs.AdministrationStates.{has_quit, seat_in}
+use Rattle.pfs_board_admin.proofs.DeskActions.{desk_wide}
 use Rattle.pfs_board_admin.specs.Desks.{sets_of}
-use Rattle.pfs_levels.specs.declared.answers.Word.{Word}
 use Rattle.pfs_board_store.specs.WriterWords.{number_of}
-use Rattle.pfs_board_session.proofs.SessionActions.{acted, keeps_behind, quit_calls, quit_sets, sets_behind, stands_behind, stood}
+use Rattle.pfs_session.specs.Turns.{turns_calls}
+use Rattle.pfs_board_session.proofs.SessionActions.{led, quit_calls, quit_sets, whole}
 use Rattle.pfs_board_session.proofs.actions.quit.Goals as goal
 
 pub finish-requires-clause-stands : goal.finish-requires-clause-stands
@@ -16,35 +15,38 @@ finish-requires-clause-stands g c =
     let begun = c.requires.begun in
     let met = c.begin-admin.ensures.call begun.0 begun.1 begun.2 in
     let p = c.quit.ensures.played in
-    let work = quit_calls old p.turns admin p.are_turns p.steps_are in
-    let behind = stood g.N.Named.setting g.N.Named.change g.N.Shared.switches _ met.0 admin met.1 begun.1 old Quit _ c.label.ensures c.requires.named met.2 c.quit.ensures.admin in
-    let sets = sets_behind g.N.Named.setting g.N.Named.change g.N.Shared.switches _ met.0 admin met.1 begun.1 old Quit _ c.label.ensures c.requires.named met.2 work in (
+    let w = whole g.N.Named.setting g.N.Named.change g.N.Shared.switches _ met.0 admin met.1 begun.1 old (Quit) _ _ c.label.ensures c.requires.named met.2 c.quit.ensures.admin
+    (quit_calls old p.turns admin p.are_turns p.steps_are)
+    (quit_sets admin.words admin.cells (has_quit admin old.number).kept.now (seat_in admin old.number) (desk_wide g.N.Named.setting g.N.Named.change g.N.Shared.switches met.0 admin met.1 met.2)) in (
       begun.0,
       _,
       p.did.goes begun.0 _ met.3,
       begun.3,
-      stands_behind g.N.Named.setting g.N.Named.change g.N.Shared.switches _ met.0 admin met.1 begun.1 _ _ _ work behind,
-      sets.0,
-      c.quit.ensures.used.name ∙ met.4 ∙ ap (λ ls. number_of (sets_of g.N.Named.setting g.N.Named.change ls)) (sym sets.1),
+      w.stands,
+      w.sets,
+      c.quit.ensures.used.name ∙ met.4 ∙ ap (λ ls. number_of (sets_of g.N.Named.setting g.N.Named.change ls)) (sym w.labels_are),
     )
 
 pub returns-clause-acted : goal.returns-clause-acted
-returns-clause-acted g c = λ start calls reached.
+returns-clause-acted g c =
     let old = c.args.session.now.state in
     let admin = c.begin-admin.result.0 in
-    let met = c.begin-admin.ensures.call start calls reached in
     let p = c.quit.ensures.played in
-    let work = quit_calls old p.turns admin p.are_turns p.steps_are in
-    let behind = stood g.N.Named.setting g.N.Named.change g.N.Shared.switches _ met.0 admin met.1 calls old Quit _ c.label.ensures c.requires.named met.2 c.quit.ensures.admin in
-    let wide = desk_wide g.N.Named.setting g.N.Named.change g.N.Shared.switches met.0 admin met.1 met.2 in
-    let one = subst (λ (ws : List Word). SetsOne admin.words (work_of_quit admin old.number).flags ws) (sym (ap (λ (s : Administration). s.words) c.quit.ensures.admin))
-    (quit_sets admin.words admin.cells (has_quit admin old.number).kept.now (seat_in admin old.number) wide) in (
-      _,
-      admin,
-      c.finish.ensures.call start _ (p.did.goes start _ met.3),
-      acted g.N.Named.setting g.N.Named.change g.N.Shared.switches _ met.0 admin met.1 calls _ _ _ _ _ p c.label.ensures met.2,
-      keeps_behind g.N.Named.setting g.N.Named.change g.N.Shared.switches _ met.0 admin met.1 calls _ _ _ met.2 work one behind,
-    )
+    record {
+      admin = admin;
+      turns = p.turns;
+      are_turns = p.are_turns;
+      steps_are = p.steps_are;
+      state_is = p.state_is;
+      entries_are = p.did.entries_are;
+      leads = λ start calls reached.
+          let met = c.begin-admin.ensures.call start calls reached in
+          led g.N.Named.setting g.N.Named.change g.N.Shared.switches _ met.0 admin met.1 calls old (turns_calls p.turns) _ start _ c.label.ensures met.2
+          (whole g.N.Named.setting g.N.Named.change g.N.Shared.switches _ met.0 admin met.1 calls old (Quit) _ _ c.label.ensures c.requires.named met.2 c.quit.ensures.admin
+          (quit_calls old p.turns admin p.are_turns p.steps_are)
+          (quit_sets admin.words admin.cells (has_quit admin old.number).kept.now (seat_in admin old.number) (desk_wide g.N.Named.setting g.N.Named.change g.N.Shared.switches met.0 admin met.1 met.2)))
+          (c.finish.ensures.call start _ (p.did.goes start _ met.3));
+    }
 
 pub quit-requires-clause-may : goal.quit-requires-clause-may
 quit-requires-clause-may g c = record {
@@ -58,9 +60,13 @@ quit-requires-clause-may g c = record {
   };
 }
 
-pub returns-clause-idle : goal.returns-clause-idle
-returns-clause-idle g c = record {
-  hand = c.finish.ensures.hand;
+pub returns-clause-used : goal.returns-clause-used
+returns-clause-used g c = record {
   left = omega (arith, c.begin-admin.ensures.left, c.quit.ensures.used.left, c.finish.ensures.left);
+  draws = omega (arith, c.begin-admin.ensures.draws, c.quit.ensures.used.draws, c.finish.ensures.draws);
+  no_more = omega (arith, c.begin-admin.ensures.draws, c.quit.ensures.used.no_more, c.finish.ensures.draws);
+  hand = λ r. c.finish.ensures.hand r ∙ sym (c.requires.idle.hand r);
+  words = refl;
+  name = refl;
   room = c.quit.ensures.used.room;
 }

@@ -1,0 +1,41 @@
+use Rattle.std.proofs.Common.{ℕ, ◌+◌, ◌-◌, ◌∙◌, length, refl, subst, arith}
+use Rattle.pfs_admin.proofs.FoldSteps.{follows}
+use Rattle.pfs_admin.specs.declared.changes.Change.TheVariants.{Truncate}
+use Rattle.pfs_board.specs.declared.view.Label.{Label}
+use Rattle.pfs_law_plain.specs.Spells.{label_of}
+use Rattle.pfs_law_session.specs.Deeds.{Truncating}
+use Rattle.pfs_levels.specs.Calls.{Begins}
+use Rattle.pfs_session.specs.Settlements.{owed_by_state, settle_cost}
+use Rattle.pfs_admin.specs.Truncations.{truncation_cost}
+use Rattle.pfs_actor.proofs.PlainActions.{has_acted, may_work}
+use Rattle.pfs_actor.proofs.PlainSteps.{others_free, store_of, used_up}
+use Rattle.pfs_actor.proofs.plain.PlainActorActor.truncate.Goals as goal
+
+pub truncate-requires-clause-may : goal.truncate-requires-clause-may
+truncate-requires-clause-may g c =
+    let s = c.args.session.now.state in
+    may_work g.N.Named.setting g.N.Named.change (length (owed_by_state s) + truncation_cost c.args.self.now.admin c.args.what) (length (owed_by_state s) + 19203) (settle_cost (owed_by_state s) + (truncation_cost c.args.self.now.admin c.args.what + 2)) (settle_cost (owed_by_state s) + 19204) c.enter.result (store_of c.args.self.now.rows) (store_of c.enter.new.self) c.args.self.now.admin (label_of s) c.args.session.now.journal
+    (omega (arith, c.truncation_cost.ensures.few, c.truncation_cost.ensures.cost)) (omega (arith, c.truncation_cost.ensures.few, c.truncation_cost.ensures.cost)) c.args.self.now.idle c.args.self.now.lent c.requires.acts (λ start calls at. at.answers)
+    (subst (λ (label : Label). Begins (store_of c.args.self.now.rows).reached (store_of c.enter.new.self).reached label c.enter.result) c.label.ensures c.enter.ensures.call) c.enter.ensures.number c.enter.ensures.kept
+
+pub leave-requires-clause-alone : goal.leave-requires-clause-alone
+leave-requires-clause-alone g c = λ r above. c.truncate.ensures.used.hand r ∙ others_free (c.enter.result - 1) (store_of c.args.self.now.rows) (store_of c.enter.new.self) c.args.self.now.idle c.enter.ensures.kept r above
+
+pub returns-clause-acted : goal.returns-clause-acted
+returns-clause-acted g c =
+    let admin = c.args.self.now.admin in
+    has_acted g.N.Named.setting g.N.Named.change (Truncate c.args.what) (λ admin. Truncating admin c.args.what) admin c.truncate.new.admin c.enter.result (admin.actions + 1) c.args.session.now c.truncate.new.self (store_of c.args.self.now.rows) (store_of c.enter.new.self) (store_of c.truncate.new.rows) (store_of c.leave.new.self) refl
+    (λ labels is. (is, c.requires.named)) (follows c.args.session.now.state.number (Truncate c.args.what) admin c.truncate.new.admin c.truncate.ensures.admin) c.requires.named (λ start calls at. at.answers)
+    (subst (λ (label : Label). Begins (store_of c.args.self.now.rows).reached (store_of c.enter.new.self).reached label c.enter.result) c.label.ensures c.enter.ensures.call) c.truncate.ensures.played c.leave.ensures.call
+
+pub returns-clause-used : goal.returns-clause-used
+returns-clause-used g c =
+    let s = c.args.session.now.state in
+    used_up g.N.Named.setting g.N.Named.change (length (owed_by_state s) + truncation_cost c.args.self.now.admin c.args.what) (length (owed_by_state s) + 19203) (settle_cost (owed_by_state s) + (truncation_cost c.args.self.now.admin c.args.what + 2)) (settle_cost (owed_by_state s) + 19204) (c.enter.result - 1) c.truncate.new.admin.words (store_of c.args.self.now.rows) (store_of c.enter.new.self) (store_of c.truncate.new.rows) (store_of c.leave.new.self) c.args.self.now.admin c.truncate.new.admin c.args.session.now.journal c.truncate.new.self.journal
+    (omega (arith, c.truncation_cost.ensures.few, c.truncation_cost.ensures.cost)) (omega (arith, c.truncation_cost.ensures.few, c.truncation_cost.ensures.cost)) c.enter.ensures.kept c.truncate.ensures.used c.leave.ensures.kept
+
+pub invariant_of-self : goal.invariant_of-self
+invariant_of-self g c = record {
+  idle = λ r. c.leave.ensures.kept.hand r;
+  lent = c.leave.ensures.kept.words ∙ c.truncate.ensures.used.words;
+}

@@ -1,0 +1,3 @@
+pub mod ActionAsks
+pub mod ActorDeeds
+pub mod PlainViews
