@@ -10,7 +10,7 @@ use Rattle.std.proofs.lemmas.Option.{get_or_from_slice_get, slice_get-get_or}
 use Rattle.pfs_journal.specs.declared.values.TableReport.{TableReport}
 use Rattle.pfs_view.proofs.GridLaws.{first_at, length_first}
 use Rattle.pfs_html.specs.Rankings.{columns_of}
-use Rattle.pfs_html.specs.Tables.{places_below}
+use Rattle.pfs_html.specs.Cells.{places_below}
 use Rattle.pfs_html.specs.declared.rankings.Ranking.{Ranking}
 use Rattle.pfs_html.specs.declared.rankings.Ranking.TheVariants.{Waits, Statements, Digests}
 

@@ -13,7 +13,7 @@ use Rattle.std.proofs.lemmas.List.Sorted.{IsPermutation-cons, IsPermutation-midd
 use Rattle.std.proofs.lemmas.List.Sums.{fold-append}
 use Rattle.pfs_text.specs.declared.values.RowValue.{RowValue}
 use Rattle.pfs_html.specs.Rankings.{by_time, number_at, rank_order, time_at, Falls}
-use Rattle.pfs_html.specs.Tables.{places_below}
+use Rattle.pfs_html.specs.Cells.{places_below}
 
 -- a key of two numbers, and a place
 abbrev Entry : Type 0

@@ -1,5 +1,5 @@
 -- A table of a page, read again.
-use Rattle.std.proofs.Common.{ℕ, ◌≡◌, Bool, true, false, List, [], ◌∷◌, ◌++◌, map, refl, ap, ◌∙◌, append_assoc, append-nil, arith}
+use Rattle.std.proofs.Common.{ℕ, ◌≡◌, Bool, true, false, List, [], ◌∷◌, ◌++◌, length, map, refl, ap, ◌∙◌, append_assoc, append-nil, arith}
 use Rattle.std.specs.Prelude.{◌==◌, if◌then◌else◌, codes}
 use Rattle.std.specs.List.{flat_map, list_all}
 use Rattle.std.proofs.lemmas.Bool.{and_parts}
@@ -9,7 +9,7 @@ use Rattle.pfs_view.specs.ColumnHeadings.{heading_text}
 use Rattle.pfs_view.specs.Grids.{cell_text, is_right}
 use Rattle.pfs_view.specs.declared.columns.Headings.{Headings}
 use Rattle.pfs_view.specs.declared.columns.Times.TheVariants.{Units}
-use Rattle.pfs_html.specs.Cells.{cell_html, cell_tag, cells_html, heading_html, headings_html, row_html}
+use Rattle.pfs_html.specs.Cells.{cell_html, cell_tag, heading_html, headings_html, places_below, row_cells_html, row_html}
 use Rattle.pfs_html.specs.Escapes.{escaped, is_plain, seen}
 use Rattle.pfs_html.specs.Readings.{cut, cut_more, grouped, groups_of, rows_seen}
 use Rattle.pfs_html.specs.Tables.{all_places, head_html, rows_html, sheet_html, table_html}
@@ -75,21 +75,23 @@ each_read html text one (place ∷ places) rest =
     ∙ ap (λ (g : Group). (text place ∷ g.0, g.1)) (each_read html text one places rest)))
 
 -- a row before rows
-row_read : (headings : Headings) (places : List ℕ) (row : List RowValue) (rest : List ℕ) → groups_of (row_html headings places row ++ rest) ≡ ([], (map (cell_text headings Units row) places ++ (groups_of rest).0) ∷ (groups_of rest).1)
-unfolding row_html cells_html
-row_read headings places row rest =
+row_read : (headings : Headings) (row : List RowValue) (rest : List ℕ) → groups_of (row_html headings row ++ rest) ≡ ([], (map (cell_text headings Units row) (places_below (length row)) ++ (groups_of rest).0) ∷ (groups_of rest).1)
+unfolding row_html row_cells_html
+row_read headings row rest =
+    let places = places_below (length row) in
     ap groups_of (three (codes "<tr>") (flat_map (cell_html headings row) places) (codes "</tr>\n") rest)
     ∙ ap (λ (g : Group). ([], g.0 ∷ g.1)) (each_read (cell_html headings row) (cell_text headings Units row) (cell_read headings row) places (codes "</tr>\n" ++ rest))
 
-rows_read : (headings : Headings) (places : List ℕ) (rows : List (List RowValue)) → groups_of (flat_map (row_html headings places) rows ++ codes "</table></div>\n") ≡ ([], map (λ (row : List RowValue). map (cell_text headings Units row) places) rows)
-rows_read headings places [] = refl
-rows_read headings places (row ∷ rows) =
+rows_read : (headings : Headings) (rows : List (List RowValue)) → groups_of (flat_map (row_html headings) rows ++ codes "</table></div>\n") ≡ ([], map (λ (row : List RowValue). map (cell_text headings Units row) (places_below (length row))) rows)
+rows_read headings [] = refl
+rows_read headings (row ∷ rows) =
     let tail = codes "</table></div>\n" in
-    ap (λ (z : List ℕ). groups_of (z ++ tail)) (flat_map-cons (row_html headings places) row rows)
-    ∙ (ap groups_of (append_assoc (row_html headings places row) (flat_map (row_html headings places) rows) tail)
-    ∙ (row_read headings places row (flat_map (row_html headings places) rows ++ tail)
-    ∙ (ap (λ (g : Group). ([], (map (cell_text headings Units row) places ++ g.0) ∷ g.1)) (rows_read headings places rows)
-    ∙ ap (λ (cells : List (List ℕ)). ([], cells ∷ map (λ (r : List RowValue). map (cell_text headings Units r) places) rows)) (append-nil (map (cell_text headings Units row) places)))))
+    let texts : List RowValue → List (List ℕ) = λ r. map (cell_text headings Units r) (places_below (length r)) in
+    ap (λ (z : List ℕ). groups_of (z ++ tail)) (flat_map-cons (row_html headings) row rows)
+    ∙ (ap groups_of (append_assoc (row_html headings row) (flat_map (row_html headings) rows) tail)
+    ∙ (row_read headings row (flat_map (row_html headings) rows ++ tail)
+    ∙ (ap (λ (g : Group). ([], (texts row ++ g.0) ∷ g.1)) (rows_read headings rows)
+    ∙ ap (λ (cells : List (List ℕ)). ([], cells ∷ map texts rows)) (append-nil (texts row)))))
 
 head_read : (headings : Headings) (places rest : List ℕ) → groups_of (head_html headings places ++ rest) ≡ ([], (map (heading_text headings) places ++ (groups_of rest).0) ∷ (groups_of rest).1)
 unfolding head_html headings_html
@@ -97,11 +99,11 @@ head_read headings places rest =
     ap groups_of (three (codes "<div><table>\n<tr>") (flat_map (heading_html headings) places) (codes "</tr>\n") rest)
     ∙ ap (λ (g : Group). ([], g.0 ∷ g.1)) (each_read (heading_html headings) (heading_text headings) (heading_read headings) places (codes "</tr>\n" ++ rest))
 
-pub table_read : (headings : Headings) (rows : List (List RowValue)) → rows_seen (table_html headings rows) ≡ map (heading_text headings) (all_places headings rows) ∷ map (λ (row : List RowValue). map (cell_text headings Units row) (all_places headings rows)) rows
+pub table_read : (headings : Headings) (rows : List (List RowValue)) → rows_seen (table_html headings rows) ≡ map (heading_text headings) (all_places headings rows) ∷ map (λ (row : List RowValue). map (cell_text headings Units row) (places_below (length row))) rows
 unfolding table_html sheet_html rows_html
 table_read headings rows =
     let places = all_places headings rows in
-    ap rows_seen (append_assoc (head_html headings places) (flat_map (row_html headings places) rows) (codes "</table></div>\n"))
-    ∙ ap (λ (g : Group). g.1) (head_read headings places (flat_map (row_html headings places) rows ++ codes "</table></div>\n")
-    ∙ ap (λ (g : Group). ([], (map (heading_text headings) places ++ g.0) ∷ g.1)) (rows_read headings places rows))
-    ∙ ap (λ (heads : List (List ℕ)). heads ∷ map (λ (row : List RowValue). map (cell_text headings Units row) places) rows) (append-nil (map (heading_text headings) places))
+    ap rows_seen (append_assoc (head_html headings places) (flat_map (row_html headings) rows) (codes "</table></div>\n"))
+    ∙ ap (λ (g : Group). g.1) (head_read headings places (flat_map (row_html headings) rows ++ codes "</table></div>\n")
+    ∙ ap (λ (g : Group). ([], (map (heading_text headings) places ++ g.0) ∷ g.1)) (rows_read headings rows))
+    ∙ ap (λ (heads : List (List ℕ)). heads ∷ map (λ (row : List RowValue). map (cell_text headings Units row) (places_below (length row))) rows) (append-nil (map (heading_text headings) places))

@@ -6,8 +6,9 @@ use Rattle.pfs_journal.specs.Spelling.{entry_text}
 use Rattle.pfs_journal.specs.declared.blocks.BlockReport.{BlockReport}
 use Rattle.pfs_text.specs.declared.values.RowValue.{RowValue}
 use Rattle.pfs_view.specs.declared.columns.Headings.TheVariants.{Numbered}
+use Rattle.pfs_html.specs.Cells.{places_below}
 use Rattle.pfs_html.specs.Escapes.{escaped}
-use Rattle.pfs_html.specs.Tables.{count_html, places_below, table_html}
+use Rattle.pfs_html.specs.Tables.{count_html, table_html}
 
 -- an entry as its line in the report
 unfoldable pub entry_html : Entry → List ℕ

@@ -16,8 +16,7 @@ use Rattle.pfs_text.specs.declared.values.RowValue.{RowValue}
 use Rattle.pfs_text.specs.declared.values.RowValue.TheVariants.{Number}
 use Rattle.pfs_view.specs.Grids.{greatest}
 use Rattle.pfs_view.specs.declared.columns.Headings.TheVariants.{Of}
-use Rattle.pfs_html.specs.Cells.{cells_html, headings_html}
-use Rattle.pfs_html.specs.Tables.{places_below}
+use Rattle.pfs_html.specs.Cells.{cells_html, headings_html, places_below}
 use Rattle.pfs_html.specs.declared.rankings.Ranking.{Ranking}
 use Rattle.pfs_html.specs.declared.rankings.Ranking.TheVariants.{Waits, Statements, Digests}
 

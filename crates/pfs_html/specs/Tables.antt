@@ -4,27 +4,23 @@ use Rattle.std.specs.List.{flat_map}
 use Rattle.pfs_journal.specs.declared.values.LostReport.{LostReport}
 use Rattle.pfs_journal.specs.declared.values.TableReport.{TableReport}
 use Rattle.pfs_text.specs.declared.values.RowValue.{RowValue}
-use Rattle.pfs_view.specs.Grids.{column_total, first_of}
+use Rattle.pfs_view.specs.Grids.{column_total}
 use Rattle.pfs_view.specs.ShownReports.{counter_row, headings_of}
 use Rattle.pfs_view.specs.declared.columns.Headings.{Headings}
 use Rattle.pfs_view.specs.declared.columns.Headings.TheVariants.{Counters}
-use Rattle.pfs_html.specs.Cells.{headings_html, row_html}
+use Rattle.pfs_html.specs.Cells.{headings_html, places_below, row_html}
 use Rattle.pfs_html.specs.Escapes.{escaped}
 
 unfoldable pub head_html : Headings → List ℕ → List ℕ
 head_html headings places = codes "<div><table>\n<tr>" ++ headings_html headings places ++ codes "</tr>\n"
 
-unfoldable pub rows_html : Headings → List ℕ → List (List RowValue) → List ℕ
-rows_html headings places rows = flat_map (row_html headings places) rows
+unfoldable pub rows_html : Headings → List (List RowValue) → List ℕ
+rows_html headings rows = flat_map (row_html headings) rows
 
 -- rows in order, under the headings of these columns
 unfoldable pub sheet_html : Headings → List ℕ → List (List RowValue) → List ℕ
 sheet_html headings places rows =
-    head_html headings places ++ rows_html headings places rows ++ codes "</table></div>\n"
-
--- the numbers from 0 up to this one, which is left out
-abbrev pub places_below : ℕ → List ℕ
-places_below count = first_of (λ (place : ℕ). place) count
+    head_html headings places ++ rows_html headings rows ++ codes "</table></div>\n"
 
 -- all columns: each with a heading of its own, and each that a row has a value in
 abbrev pub all_places : Headings → List (List RowValue) → List ℕ

@@ -2,7 +2,7 @@
 
 ghost use Rattle.std.specs.Prelude.{◌≡◌, ◌+◌, ◌<◌, ◌++◌, ◌^◌, OnOk};
 ghost use Rattle.std.specs.List.{All};
-ghost use Rattle.pfs_html.specs.Cells.{cell_html, cell_tag as spec_cell_tag, cells_html, heading_html, headings_html, row_html};
+ghost use Rattle.pfs_html.specs.Cells.{cell_html, cell_tag as spec_cell_tag, cells_html, heading_html, headings_html, row_cells_html, row_html};
 
 use crate::NoMemory;
 use crate::escapes::put_escaped;
@@ -59,18 +59,24 @@ pub(crate) fn put_cells(
     Ok(())
 }
 
+/// Appends a cell for each value of a row, in their order.
+#[tactic(auto, unfolding(crate::specs::Cells::row_cells_html))]
+fn put_row_cells(pen: &mut Pen, headings: Headings, row: &[RowValue]) -> Result<(), NoMemory>
+    ensures { OnOk result (pen.new.page.items ≡ pen.old.page.items ++ row_cells_html headings row.now) }
+{
+    for place in 0..row.len() {
+        put_cell(pen, headings, row, place)?;
+    }
+    Ok(())
+}
+
 /// Appends a row.
 #[tactic(auto, unfolding(crate::specs::Cells::row_html))]
-pub(crate) fn put_row(
-    pen: &mut Pen,
-    headings: Headings,
-    places: &[usize],
-    row: &Row,
-) -> Result<(), NoMemory>
-    ensures { OnOk result (pen.new.page.items ≡ pen.old.page.items ++ row_html headings places.now row.now) }
+pub(crate) fn put_row(pen: &mut Pen, headings: Headings, row: &Row) -> Result<(), NoMemory>
+    ensures { OnOk result (pen.new.page.items ≡ pen.old.page.items ++ row_html headings row.now) }
 {
     pen.page.extend_from_slice(b"<tr>")?;
-    put_cells(pen, headings, places, row.as_slice())?;
+    put_row_cells(pen, headings, row.as_slice())?;
     pen.page.extend_from_slice(b"</tr>\n")
 }
 

@@ -8,10 +8,11 @@ ghost use Rattle.pfs_view.specs.ColumnHeadings.{heading_text};
 ghost use Rattle.pfs_view.specs.Grids.{cell_text};
 ghost use Rattle.pfs_view.specs.declared.columns.Headings.{Headings};
 ghost use Rattle.pfs_view.specs.declared.columns.Times.TheVariants.{Units};
+ghost use Rattle.pfs_html.specs.Cells.{places_below};
 ghost use Rattle.pfs_html.specs.Escapes.{escaped, is_plain, seen};
 ghost use Rattle.pfs_html.specs.Rankings.{Falls, by_time, number_at, time_at};
 ghost use Rattle.pfs_html.specs.Readings.{rows_seen};
-ghost use Rattle.pfs_html.specs.Tables.{all_places, places_below, table_html};
+ghost use Rattle.pfs_html.specs.Tables.{all_places, table_html};
 
 /// Whatever a text has, no byte of it in a page can end a cell or a tag's value, or begin a tag.
 pub fn texts_stay_texts()
@@ -30,10 +31,10 @@ pub fn ranks_are_right()
         × Falls (time_at column rows) (by_time column rows) }
 {}
 
-/// A reader of a table's page sees first the row of its headings, and then its rows in their order: in each, behind as
-/// many others as its column, the text of its value there.
+/// A reader of a table's page sees first the row of its headings, and then its rows in their order: of each the texts of
+/// its values, one for each, behind as many others as its column. So no row has a cell for a value that isn't there.
 pub fn tables_are_seen()
     ensures { (headings : Headings) (rows : List (List RowValue)) → rows_seen (table_html headings rows)
         ≡ map (heading_text headings) (all_places headings rows)
-        ∷ map (λ row. map (cell_text headings Units row) (all_places headings rows)) rows }
+        ∷ map (λ row. map (cell_text headings Units row) (places_below (length row))) rows }
 {}

@@ -2,7 +2,8 @@
 
 ghost use Rattle.std.specs.Prelude.{◌≡◌, ◌+◌, ◌<◌, ◌++◌, ◌^◌, IfOk, OnOk};
 ghost use Rattle.std.specs.List.{All};
-ghost use Rattle.pfs_html.specs.Tables.{count_html, fold_html, folded_html, head_html, lost_html, name_html, named_html, places_below as spec_places_below, rows_html, sheet_html, table_html, tables_html};
+ghost use Rattle.pfs_html.specs.Cells.{places_below as spec_places_below};
+ghost use Rattle.pfs_html.specs.Tables.{count_html, fold_html, folded_html, head_html, lost_html, name_html, named_html, rows_html, sheet_html, table_html, tables_html};
 
 use crate::NoMemory;
 use crate::cells::{Pen, put_headings, put_row};
@@ -34,16 +35,11 @@ fn put_head(pen: &mut Pen, headings: Headings, places: &[usize]) -> Result<(), N
 }
 
 #[tactic(auto, unfolding(crate::specs::Tables::rows_html))]
-fn put_rows(
-    pen: &mut Pen,
-    headings: Headings,
-    places: &[usize],
-    rows: &[Row],
-) -> Result<(), NoMemory>
-    ensures { OnOk result (pen.new.page.items ≡ pen.old.page.items ++ rows_html headings places.now rows.now) }
+fn put_rows(pen: &mut Pen, headings: Headings, rows: &[Row]) -> Result<(), NoMemory>
+    ensures { OnOk result (pen.new.page.items ≡ pen.old.page.items ++ rows_html headings rows.now) }
 {
     for row in rows {
-        put_row(pen, headings, places, row)?;
+        put_row(pen, headings, row)?;
     }
     Ok(())
 }
@@ -60,7 +56,7 @@ fn put_sheet(
     ensures { OnOk result (pen.new.page.items ≡ pen.old.page.items ++ sheet_html headings places.now rows.now) }
 {
     put_head(pen, headings, places)?;
-    put_rows(pen, headings, places, rows)?;
+    put_rows(pen, headings, rows)?;
     pen.page.extend_from_slice(b"</table></div>\n")
 }
 

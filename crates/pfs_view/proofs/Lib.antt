@@ -2,5 +2,8 @@ pub mod GridLaws
 pub mod GridLists
 mod LineSteps
 mod Outcomes
+mod RefusalReadings
+mod WidenSteps
+mod WidthLists
 pub mod WrittenParts
 mod WrongLines

@@ -1,5 +1,5 @@
 -- How a call ends, from how its parts end.
-use Rattle.std.proofs.Common.{ℕ, ◌≡◌, ◌≤◌, ◌⊎◌, inl, inr, List, length, take, drop, Option, IfSome, Result, Ok, Err}
+use Rattle.std.proofs.Common.{ℕ, ◌≡◌, ◌≤◌, inl, inr, List, length, take, drop, Option, IfSome, Result, Ok, Err}
 use Rattle.pfs_outside.specs.DeviceCalls.{Rose, Added}
 use Rattle.pfs_outside.specs.WholeStreams.{Puts}
 use Rattle.pfs_outside.specs.declared.writing.WriteStop.{WriteStop}

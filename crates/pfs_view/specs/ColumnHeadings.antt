@@ -1,5 +1,5 @@
 -- What stands above each column of a table, and which columns show times.
-use Rattle.std.specs.Prelude.{ℕ, ◌+◌, ◌==◌, nat_eq, Bool, true, false, ◌||◌, if◌then◌else◌, List, length, slice_get, Option, Some, None, codes, decimal}
+use Rattle.std.specs.Prelude.{ℕ, ◌+◌, ◌==◌, nat_eq, Bool, false, ◌||◌, if◌then◌else◌, List, length, slice_get, Option, Some, None, codes, decimal}
 use Rattle.std.specs.List.{starts_with}
 use Rattle.std.specs.Option.{option_map, option_map_or}
 use Rattle.pfs_catalogue.specs.Columns.{Named, columns_of}

@@ -1,5 +1,5 @@
--- Rows laid out in columns, each as wide as its widest cell.
-use Rattle.std.specs.Prelude.{ℕ, zero, suc, ◌+◌, ◌-◌, max, Bool, true, false, ◌&&◌, if◌then◌else◌, List, [], ◌∷◌, ◌++◌, length, replicate, slice_get, slice_index, Option, Some, None, codes}
+-- Rows laid out in columns, each as wide as its widest cell of at most 64 characters, or its heading.
+use Rattle.std.specs.Prelude.{ℕ, zero, suc, ◌-◌, ◌≡◌, ◌<◌, max, nat_le, Bool, true, false, ◌&&◌, if◌then◌else◌, List, [], ◌∷◌, ◌++◌, length, replicate, slice_get, slice_index, codes}
 use Rattle.std.specs.List.{flat_map}
 use Rattle.std.specs.Option.{option_map_or}
 use Rattle.pfs_text.specs.declared.values.RowValue.{RowValue}
@@ -31,10 +31,24 @@ greatest f (x ∷ xs) = max (f x) (greatest f xs)
 abbrev pub column_total : Headings → List (List RowValue) → ℕ
 column_total headings rows = max (heading_count headings) (greatest (λ (row : List RowValue). length row) rows)
 
--- as wide as its widest cell, or its heading
+-- a wider cell makes its column no wider: a digest has so many characters
+abbrev pub most_width : ℕ
+most_width = 64
+
+abbrev pub aligned : ℕ → ℕ
+aligned size = if nat_le size most_width then size else 0
+
+-- how wide a row makes a column
+abbrev pub row_width : Headings → Times → ℕ → List RowValue → ℕ
+row_width headings times place row = aligned (length (cell_text headings times row place))
+
+abbrev pub heading_width : Headings → ℕ → ℕ
+heading_width headings place = length (heading_text headings place)
+
+-- as wide as its widest cell of those, or its heading
 abbrev pub width_at : Headings → Times → List (List RowValue) → ℕ → ℕ
-width_at headings times rows place = max (length (heading_text headings place))
-    (greatest (λ (row : List RowValue). length (cell_text headings times row place)) rows)
+width_at headings times rows place =
+    max (heading_width headings place) (greatest (row_width headings times place) rows)
 
 -- the first ones of a list that has one for each place
 abbrev pub first_of : {A : Type 0} → (ℕ → A) → ℕ → List A
@@ -44,7 +58,13 @@ first_of f (suc n) = first_of f n ++ f n ∷ []
 abbrev pub widths_of : Headings → Times → List (List RowValue) → List ℕ
 widths_of headings times rows = first_of (width_at headings times rows) (column_total headings rows)
 
--- a cell filled up with spaces to its column's width
+-- columns that a row made wider
+pub record Widened (headings : Headings) (times : Times) (row : List RowValue) (old new : List ℕ) : Type 0 where
+  pub count : length new ≡ length old
+  pub each : (place : ℕ) → place < length old
+      → slice_index new place ≡ max (slice_index old place) (row_width headings times place row)
+
+-- a cell filled up with spaces to its column's width; a wider one sticks out
 abbrev pub padded : Bool → ℕ → List ℕ → List ℕ
 padded right width text = if right then replicate (width - length text) 32 ++ text
     else text ++ replicate (width - length text) 32
@@ -54,10 +74,11 @@ abbrev pub bars : (ℕ → List ℕ) → ℕ → List ℕ
 bars cell zero = []
 bars cell (suc n) = bars cell n ++ codes "| " ++ cell n ++ codes " "
 
+-- a row's line ends behind its last value
 unfoldable pub row_line : Headings → Times → List ℕ → List RowValue → List ℕ
 row_line headings times widths row =
     bars (λ (place : ℕ). padded (is_right row place) (slice_index widths place) (cell_text headings times row place))
-    (length widths) ++ codes "|\n"
+    (length row) ++ codes "|\n"
 
 unfoldable pub heading_line : Headings → List ℕ → List ℕ
 heading_line headings widths =
@@ -90,6 +111,6 @@ lines_below headings times widths rows = heading_line headings widths ++ body_li
 unfoldable pub lines_of : Headings → Times → List ℕ → List (List RowValue) → List ℕ
 lines_of headings times widths rows = border_line widths ++ lines_below headings times widths rows
 
--- each column is as wide as its widest cell or its heading
+-- each column is as wide as its widest cell of at most so many characters, or its heading
 unfoldable pub grid_text : Headings → Times → List (List RowValue) → List ℕ
 grid_text headings times rows = lines_of headings times (widths_of headings times rows) rows

@@ -1,6 +1,7 @@
 pub mod Cells
 pub mod ColumnHeadings
 pub mod Grids
+pub mod NumberFronts
 pub mod Readings
 pub mod Refusals
 pub mod ScriptLines

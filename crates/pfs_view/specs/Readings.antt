@@ -1,14 +1,23 @@
 -- How a reader takes the line of a row apart.
-use Rattle.std.specs.Prelude.{ℕ, zero, suc, ◌+◌, ◌==◌, if◌then◌else◌, List, [], ◌∷◌, reverse, slice_index, take, drop}
+use Rattle.std.specs.Prelude.{ℕ, zero, suc, ◌+◌, ◌==◌, max, if◌then◌else◌, List, [], ◌∷◌, length, reverse, slice_index, take, drop}
+use Rattle.pfs_text.specs.declared.values.RowValue.{RowValue}
+use Rattle.pfs_view.specs.Grids.{cell_text}
+use Rattle.pfs_view.specs.declared.columns.Headings.{Headings}
+use Rattle.pfs_view.specs.declared.columns.Times.{Times}
 
--- where the cell at a place begins, in a line of columns so wide
-abbrev pub cell_start : List ℕ → ℕ → ℕ
-cell_start widths zero = 2
-cell_start widths (suc n) = cell_start widths n + slice_index widths n + 3
+-- the room of a row's cell in its line: as wide as its column, or wider where it sticks out
+abbrev pub room : Headings → Times → List ℕ → List RowValue → ℕ → ℕ
+room headings times widths row place =
+    max (slice_index widths place) (length (cell_text headings times row place))
 
--- what stands there, as wide as the column
-abbrev pub cell_in : List ℕ → List ℕ → ℕ → List ℕ
-cell_in widths line place = take (slice_index widths place) (drop (cell_start widths place) line)
+-- where the cell at a place begins, in a line of cells that have so much room
+abbrev pub cell_start : (ℕ → ℕ) → ℕ → ℕ
+cell_start wide zero = 2
+cell_start wide (suc n) = cell_start wide n + wide n + 3
+
+-- what stands there
+abbrev pub cell_in : (ℕ → ℕ) → List ℕ → ℕ → List ℕ
+cell_in wide line place = take (wide place) (drop (cell_start wide place) line)
 
 -- a text from its first byte on that is no space
 abbrev pub without_spaces : List ℕ → List ℕ

@@ -1,5 +1,5 @@
 -- The line that a program writes of a text that is no script, and that line in words.
-use Rattle.std.specs.Prelude.{ℕ, ◌==◌, if◌then◌else◌, List, ◌++◌, codes, decimal}
+use Rattle.std.specs.Prelude.{ℕ, ◌≢◌, ◌<◌, ◌^◌, ◌==◌, if◌then◌else◌, List, ◌++◌, codes, decimal}
 use Rattle.pfs_view.specs.ScriptLines.{line_at, quoted_line}
 
 unfoldable pub faulty_line : ℕ → List ℕ
@@ -11,6 +11,10 @@ why_faulty reason = codes " reason " ++ decimal reason ++ codes "\n"
 -- the line that is written of a script's first faulty line and the number of the reason
 unfoldable pub refusal_line : ℕ → ℕ → List ℕ
 refusal_line line reason = faulty_line line ++ why_faulty reason
+
+-- no line and reason are told so
+abbrev pub IsNoRefusal : List ℕ → Type 0
+IsNoRefusal text = (line reason : ℕ) → line < 2 ^ 64 → reason < 2 ^ 64 → text ≢ refusal_line line reason
 
 -- why a line of a script is faulty
 abbrev pub reason_words : ℕ → List ℕ

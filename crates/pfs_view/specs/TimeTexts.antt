@@ -1,5 +1,5 @@
 -- A time in picoseconds as a text with its unit.
-use Rattle.std.specs.Prelude.{ℕ, ◌≡◌, ◌+◌, ◌*◌, ◌/◌, ◌%◌, nat_lt, nat_le, if◌then◌else◌, List, [], ◌∷◌, ◌++◌, Option, Some, None, MatchOption, codes, decimal, refl}
+use Rattle.std.specs.Prelude.{ℕ, ◌+◌, ◌*◌, ◌/◌, ◌%◌, nat_lt, nat_le, if◌then◌else◌, List, [], ◌∷◌, ◌++◌, Option, Some, None, codes, decimal}
 use Rattle.std.specs.Option.{option_map_or}
 use Rattle.pfs_view.specs.declared.times.Unit.{Unit}
 use Rattle.pfs_view.specs.declared.times.Unit.TheVariants.{Week, Day, Hour, Minute, Second, Millisecond, Microsecond, Nanosecond}

@@ -8,7 +8,7 @@ use Rattle.pfs_journal.specs.declared.report.ReportParts.{ReportParts}
 use Rattle.pfs_journal.specs.FirstWrongLine.{IsFirstWrong}
 use Rattle.pfs_journal.specs.Spelling.{spelling}
 use Rattle.pfs_view.specs.declared.viewing.Status.{Status}
-use Rattle.pfs_view.specs.Refusals.{refusal_line, refusal_text}
+use Rattle.pfs_view.specs.Refusals.{IsNoRefusal, refusal_line, refusal_text}
 use Rattle.pfs_view.specs.declared.viewing.Status.TheVariants.{Done, BadReport, BadScript, TooLong, ReadFault, WriteFault, NoMemory}
 
 -- how many bytes a report may have
@@ -31,15 +31,17 @@ IsExplained script line reason _ due = ⊥
 
 -- the text due of bytes that are no report, and are wrong first at this line
 abbrev pub IsRefusedAt : List ℕ → List ℕ → ℕ → Status → List ℕ → Type 0
-IsRefusedAt script bytes at (BadReport number) due = (number ≡ at) × (due ≡ wrong_line at)
+IsRefusedAt script bytes at (BadReport number) due = (number ≡ at) × (due ≡ wrong_line at) × IsNoRefusal bytes
 IsRefusedAt script bytes at (BadScript line reason) due =
     (bytes ≡ refusal_line line reason) × (due ≡ refusal_text script line reason)
 IsRefusedAt script bytes at _ due = ⊥
 
--- the text due of bytes: how the report that they are is shown, or their first wrong line, or what is told of a script
+-- the text due of bytes: how the report that they are is shown, or what is told of a script by exactly the lines that
+-- tell of one, or of all others their first wrong line
 abbrev pub HasView : (ReportParts → List ℕ) → List ℕ → List ℕ → Status → List ℕ → Type 0
 HasView shown script bytes Done due = (report : ReportParts) × (bytes ≡ spelling report) × (due ≡ shown report)
-HasView shown script bytes (BadReport at) due = IsFirstWrong bytes at × (due ≡ wrong_line at)
+HasView shown script bytes (BadReport at) due =
+    IsFirstWrong bytes at × (due ≡ wrong_line at) × IsNoRefusal bytes
 HasView shown script bytes (BadScript line reason) due =
     (bytes ≡ refusal_line line reason) × (due ≡ refusal_text script line reason)
 HasView shown script bytes _ due = ⊥

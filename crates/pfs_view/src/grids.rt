@@ -1,8 +1,8 @@
-//! Rows laid out under their headings, in columns as wide as their widest cells.
+//! Rows laid out under their headings, in columns as wide as their widest cells of at most 64 characters.
 
 ghost use Rattle.std.specs.Prelude.{ℕ, List, ◌≡◌, ◌<◌, ◌+◌, ◌^◌, OnOk, IfOk};
 ghost use Rattle.pfs_outside.specs.WholeStreams.{Puts};
-ghost use Rattle.pfs_view.specs.Grids.{body_lines, border_line as spec_border_line, column_total, grid_text, heading_line as spec_heading_line, lines_below, lines_of, row_line as spec_row_line, row_lines, rows_and_border, width_at, widths_of};
+ghost use Rattle.pfs_view.specs.Grids.{body_lines, border_line as spec_border_line, column_total, first_of, grid_text, heading_line as spec_heading_line, heading_width, lines_below, lines_of, row_line as spec_row_line, row_lines, rows_and_border, widths_of};
 
 use crate::NoMemory;
 use crate::lines::{Buffers, Layout, border_line};
@@ -56,29 +56,29 @@ impl Grid<'_> {
         columns
     }
 
-    /// How wide a column is: as its widest cell, or its heading.
-    fn width(&self, cell: &mut Vec<u8>, place: usize) -> Result<usize, NoMemory>
-        requires { place + 1 < 2 ^ 64 }
-        ensures { IfOk result (λ width. width ≡ width_at self.now.layout.headings self.now.layout.times
-            self.now.rows.now place) }
-    {
-        let mut width = self.layout.heading_width(cell, place)?;
-        for row in self.rows {
-            width = width.max(self.layout.cell_width(cell, row.as_slice(), place)?);
-        }
-        Ok(width)
-    }
-
-    /// How wide each column is.
+    /// How wide each heading is.
     #[tactic(auto, using(crate::proofs::GridLists::first_more))]
-    fn widths(&self, alloc: Global, cell: &mut Vec<u8>) -> Result<Vec<usize>, NoMemory>
-        ensures { IfOk result (λ widths. widths.items ≡ widths_of self.now.layout.headings self.now.layout.times
-            self.now.rows.now) }
+    fn heading_widths(&self, alloc: Global, cell: &mut Vec<u8>) -> Result<Vec<usize>, NoMemory>
+        ensures { IfOk result (λ widths. widths.items
+            ≡ first_of (heading_width self.now.layout.headings)
+            (column_total self.now.layout.headings self.now.rows.now)) }
     {
         let columns = self.columns();
         let mut widths = Vec::new(alloc);
         for place in 0..columns {
-            widths.push(self.width(cell, place)?)?;
+            widths.push(self.layout.heading_width(cell, place)?)?;
+        }
+        Ok(widths)
+    }
+
+    /// How wide each column is.
+    fn widths(&self, alloc: Global, cell: &mut Vec<u8>) -> Result<Vec<usize>, NoMemory>
+        ensures { IfOk result (λ widths. widths.items ≡ widths_of self.now.layout.headings self.now.layout.times
+            self.now.rows.now) }
+    {
+        let mut widths = self.heading_widths(alloc, cell)?;
+        for row in self.rows {
+            self.layout.widen(cell, &mut widths, row.as_slice())?;
         }
         Ok(widths)
     }
@@ -187,9 +187,9 @@ impl Grid<'_> {
     }
 
     /// Offers the grid to a sink line by line: a border, the headings, a border, the rows in their order, a border.
-    /// Each cell stands behind a bar, filled up to its column's width, a number at the right. A row with fewer values
-    /// than there are columns has empty cells behind them, and a value that no heading is known for stands under its
-    /// column's number. On a refusal a front of these lines was written.
+    /// Each cell stands behind a bar, filled up to its column's width, a number at the right; one of more than 64
+    /// characters, which no column is made as wide as, sticks out. A row's line ends behind its last value, and a value
+    /// that no heading is known for stands under its column's number. On a refusal a front of these lines was written.
     #[tactic(auto, unfolding(crate::specs::Grids::grid_text))]
     pub fn put<K: Sink>(
         &self,

@@ -1,7 +1,7 @@
 //! The lines of a grid, each built in a buffer that serves for many.
 
 ghost use Rattle.std.specs.Prelude.{◌≡◌, ◌<◌, ◌+◌, ◌++◌, ◌^◌, false, codes, length, replicate, slice_index, IfOk, OnOk};
-ghost use Rattle.pfs_view.specs.Grids.{bars, border_line as spec_border_line, cell_text, dashes, heading_line as spec_heading_line, is_right as spec_is_right, padded, row_line as spec_row_line};
+ghost use Rattle.pfs_view.specs.Grids.{Widened, aligned as spec_aligned, bars, border_line as spec_border_line, cell_text, dashes, heading_line as spec_heading_line, is_right as spec_is_right, padded, row_line as spec_row_line, row_width};
 ghost use Rattle.pfs_view.specs.ColumnHeadings.{heading_text};
 
 use crate::NoMemory;
@@ -21,6 +21,26 @@ pub struct Buffers {
 pub struct Layout {
     pub headings: Headings,
     pub times: Times,
+}
+
+/// How many characters a cell may have that its column is made as wide as: a digest has so many.
+const MOST_WIDTH: usize = 64;
+
+/// How wide a cell of so many characters makes its column: a wider one doesn't count.
+fn aligned(size: usize) -> usize
+    ensures { result ≡ spec_aligned size }
+{
+    if size <= MOST_WIDTH { size } else { 0 }
+}
+
+/// How wide the column at a place is, 0 where there is none.
+fn width_of(widths: &[usize], place: usize) -> usize
+    ensures { result ≡ slice_index widths.now place }
+{
+    match widths.get(place) {
+        Some(width) => *width,
+        None => 0,
+    }
 }
 
 /// Appends so many of a byte.
@@ -70,18 +90,34 @@ impl Layout {
         }
     }
 
-    /// How wide the cell is, which is built in the buffer.
-    pub fn cell_width(
+    /// How wide the row makes a column: as its cell, which is built in the buffer, unless that is too wide.
+    fn row_width(
         self,
         cell: &mut Vec<u8>,
         row: &[RowValue],
         place: usize,
     ) -> Result<usize, NoMemory>
-        ensures { IfOk result (λ width. width ≡ length (cell_text self.headings self.times row.now place)) }
+        ensures { IfOk result (λ width. width ≡ row_width self.headings self.times place row.now) }
     {
         cell.clear();
         self.put_cell(cell, row, place)?;
-        Ok(cell.len())
+        Ok(aligned(cell.len()))
+    }
+
+    /// Makes columns as wide as the row's cells at least, but for those that are too wide.
+    pub(crate) fn widen(
+        self,
+        cell: &mut Vec<u8>,
+        widths: &mut Vec<usize>,
+        row: &[RowValue],
+    ) -> Result<(), NoMemory>
+        ensures { OnOk result (Widened self.headings self.times row.now widths.old.items widths.new.items) }
+    {
+        for place in 0..row.len().min(widths.len()) {
+            let width = self.row_width(cell, row, place)?;
+            widths[place] = widths[place].max(width);
+        }
+        Ok(())
     }
 
     /// How wide the heading is, which is built in the buffer.
@@ -94,7 +130,7 @@ impl Layout {
         Ok(cell.len())
     }
 
-    /// Builds the line of a row, in columns so wide.
+    /// Builds the line of a row, in columns so wide. It ends behind the row's last value.
     #[tactic(auto, unfolding(crate::specs::Grids::row_line))]
     pub fn row_line(
         self,
@@ -107,8 +143,8 @@ impl Layout {
     {
         let values = row.as_slice();
         buffers.line.clear();
-        for place in 0..widths.len() {
-            self.put_row_bar(buffers, values, place, widths[place])?;
+        for place in 0..values.len() {
+            self.put_row_bar(buffers, values, place, width_of(widths, place))?;
         }
         buffers.line.extend_from_slice(b"|\n")
     }

@@ -1,7 +1,9 @@
 //! The line that a program writes of a text that is no script.
 
-ghost use Rattle.std.specs.Prelude.{◌≡◌, ◌++◌, IfOk, IfSome, OnOk};
-ghost use Rattle.pfs_view.specs.Refusals.{explained_text, faulty_line, line_words, reason_words as spec_reason_words, refusal_line, refusal_text, why_faulty};
+ghost use Rattle.std.specs.Prelude.{ℕ, List, ◌≡◌, ◌<◌, ◌≤◌, ◌^◌, ◌++◌, length, decimal, IfOk, MatchOption, OnOk};
+ghost use Rattle.std.specs.List.{prefix_len};
+ghost use Rattle.pfs_view.specs.NumberFronts.{BeginsPlain, is_digit};
+ghost use Rattle.pfs_view.specs.Refusals.{IsNoRefusal, explained_text, faulty_line, line_words, reason_words as spec_reason_words, refusal_line, refusal_text, why_faulty};
 
 use crate::NoMemory;
 use crate::script_lines::{line_at, put_quoted_line};
@@ -101,21 +103,49 @@ pub(crate) fn refusal_text(
     Ok(out)
 }
 
-/// What a text tells if it is the line of a refusal, which is compared afterwards.
-fn guess(text: &[u8]) -> Option<Refusal> {
-    let numbers = text.strip_prefix(b"bad script: line ")?;
-    let end = numbers.iter().position(|byte| *byte == b' ')?;
-    let (line, rest) = numbers.split_at(end);
-    let reason = rest.strip_prefix(b" reason ")?.strip_suffix(b"\n")?;
-    Some(Refusal {
-        line: read_u64(line)?,
-        reason: read_u64(reason)?,
-    })
+/// What stands behind these words, where they stand in front of the text.
+fn behind_words<'a>(text: &'a [u8], words: &[u8]) -> Option<&'a [u8]>
+    ensures { (rest : List ℕ) → text.now ≡ words.now ++ rest → MatchOption result ⊥ (λ behind. behind.now ≡ rest) }
+{
+    text.strip_prefix(words)
+}
+
+/// How many digits stand in front of the text.
+fn digits_length(text: &[u8]) -> usize
+    ensures length { result ≡ prefix_len is_digit text.now }
+    ensures inside { result ≤ length text.now }
+{
+    text.iter()
+        .take_while(|byte| b'0' <= **byte && **byte <= b'9')
+        .count()
+}
+
+/// The number in front of the text, and what stands behind it.
+fn number_front(text: &[u8]) -> Option<(u64, &[u8])>
+    ensures { (number : ℕ) (rest : List ℕ) → number < 2 ^ 64 → BeginsPlain rest → text.now ≡ decimal number ++ rest
+        → MatchOption result ⊥ (λ found. (found.0 ≡ number) × (found.1.now ≡ rest)) }
+{
+    let end = digits_length(text);
+    let number = read_u64(&text[..end])?;
+    Some((number, &text[end..]))
+}
+
+/// What a text tells if it is the line of a refusal, which is compared afterwards: no such line is missed.
+fn guess(text: &[u8]) -> Option<Refusal>
+    ensures { (line reason : ℕ) → line < 2 ^ 64 → reason < 2 ^ 64 → text.now ≡ refusal_line line reason
+        → MatchOption result ⊥ (λ refusal. (refusal.line ≡ line) × (refusal.reason ≡ reason)) }
+{
+    let numbers = behind_words(text, b"bad script: line ")?;
+    let (line, rest) = number_front(numbers)?;
+    let number = behind_words(rest, b" reason ")?;
+    let (reason, _) = number_front(number)?;
+    Some(Refusal { line, reason })
 }
 
 /// The refusal that this text tells, if it is the line of one.
 pub(crate) fn refusal_of(alloc: Global, text: &[u8]) -> Result<Option<Refusal>, NoMemory>
-    ensures { IfOk result (λ told. IfSome told (λ refusal. text.now ≡ refusal_line refusal.line refusal.reason)) }
+    ensures { IfOk result (λ told. MatchOption told (IsNoRefusal text.now)
+        (λ refusal. text.now ≡ refusal_line refusal.line refusal.reason)) }
 {
     let Some(refusal) = guess(text) else {
         return Ok(None);

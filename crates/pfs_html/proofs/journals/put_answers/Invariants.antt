@@ -1,7 +1,7 @@
 use Rattle.std.proofs.Common.{◌≡◌, ◌++◌}
 use Rattle.std.specs.List.{flat_map}
 use Rattle.pfs_html.specs.Journals.{answer_html}
-use Rattle.pfs_html.specs.Tables.{places_below}
+use Rattle.pfs_html.specs.Cells.{places_below}
 use Rattle.pfs_html.proofs.journals.put_answers.Given as goal
 
 abbrev pub invariant-loop-place : goal.invariant-loop-place

@@ -1,4 +1,3 @@
-use Rattle.std.specs.List.{flat_map}
 use Rattle.pfs_view.specs.ShownReports.{chosen_of, chosen_text, tables_text}
 use Rattle.pfs_view.proofs.WrittenParts.{stopped_at}
 use Rattle.pfs_view.proofs.phases.put_tables.Goals as goal

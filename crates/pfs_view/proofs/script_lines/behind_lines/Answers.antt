@@ -1,4 +1,4 @@
-use Rattle.std.proofs.Common.{◌≡◌, ◌+◌, ◌<◌, ℕ, length, drop, refl, ap, sym, ◌∙◌, arith}
+use Rattle.std.proofs.Common.{◌+◌, ◌<◌, ℕ, length, drop, refl, ap, ◌∙◌, arith}
 use Rattle.pfs_view.specs.ScriptLines.{behind_lines}
 use Rattle.std.specs.Prelude.{slice_index}
 use Rattle.pfs_view.proofs.LineSteps.{behind_all, behind_more}

@@ -1,3 +1,4 @@
+use Rattle.pfs_view.specs.Refusals.{IsNoRefusal}
 use Rattle.pfs_view.specs.Views.{IsExplained, IsRefusedAt, IsWrongAt}
 use Rattle.pfs_view.proofs.Outcomes.{tells_as}
 use Rattle.pfs_view.proofs.WrongLines.{explained_refused, wrong_refused}
@@ -13,4 +14,5 @@ returns-in-Ok-Some g c =
 
 pub returns-in-Ok-None : goal.returns-in-Ok-None
 returns-in-Ok-None g c =
-    tells_as (IsWrongAt c.args.at) (IsRefusedAt c.args.script.now c.args.bytes.now c.args.at) _ _ _ c.complain.result (wrong_refused c.args.script.now c.args.bytes.now c.args.at) c.complain.ensures
+    let none : IsNoRefusal c.args.bytes.now = rw c.in-Ok-None.field-0-is at c.in-Ok-None.ensures in
+    tells_as (IsWrongAt c.args.at) (IsRefusedAt c.args.script.now c.args.bytes.now c.args.at) _ _ _ c.complain.result (wrong_refused c.args.script.now c.args.bytes.now c.args.at none) c.complain.ensures

@@ -1,6 +1,5 @@
-use Rattle.std.proofs.Common.{ℕ, List, refl, sym, subst}
+use Rattle.std.proofs.Common.{refl, sym, subst}
 use Rattle.pfs_outside.specs.DeviceCalls.{Rose}
-use Rattle.pfs_journal.specs.FirstWrongLine.{IsFirstWrong}
 use Rattle.pfs_view.specs.Views.{HasView, IsRefusedAt, Tells}
 use Rattle.pfs_view.specs.declared.viewing.Status.{Status}
 use Rattle.pfs_view.specs.declared.viewing.Status.TheVariants.{Done}

@@ -1,4 +1,4 @@
-use Rattle.std.proofs.Common.{List, ℕ, subst, take, drop}
+use Rattle.std.proofs.Common.{List, ℕ, subst, take}
 use Rattle.pfs_outside.specs.DeviceCalls.{Rose}
 use Rattle.pfs_view.specs.Views.{HasView, Tells}
 use Rattle.pfs_view.proofs.viewing.view_input.Goals as goal

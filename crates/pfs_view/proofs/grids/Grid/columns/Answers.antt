@@ -1,4 +1,4 @@
-use Rattle.std.proofs.Common.{ℕ, List, length, rules}
+use Rattle.std.proofs.Common.{List, length, rules}
 use Rattle.pfs_text.specs.declared.values.RowValue.{RowValue}
 use Rattle.pfs_view.specs.ColumnHeadings.{heading_count}
 use Rattle.pfs_view.proofs.GridLists.{wider}

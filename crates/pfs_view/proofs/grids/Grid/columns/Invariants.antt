@@ -1,4 +1,4 @@
-use Rattle.std.proofs.Common.{ℕ, ◌≡◌, max, List, length, take}
+use Rattle.std.proofs.Common.{◌≡◌, max, List, length, take}
 use Rattle.pfs_text.specs.declared.values.RowValue.{RowValue}
 use Rattle.pfs_view.specs.ColumnHeadings.{heading_count}
 use Rattle.pfs_view.specs.Grids.{greatest}

@@ -1,4 +1,3 @@
-use Rattle.std.specs.List.{flat_map}
 use Rattle.pfs_view.specs.Grids.{row_line, row_lines}
 use Rattle.pfs_view.proofs.WrittenParts.{stopped_at}
 use Rattle.pfs_view.proofs.grids.Grid.put_rows.Goals as goal
