@@ -136,15 +136,15 @@ that_is one other h =
     let Q : ℕ → Change = λ v. record { row = one.row; version = v } in
     ap P (eqb-true other.row one.row both.0) ∙ ap Q (eqb-true other.version one.version both.1)
 
-that_self : (change : Change) → is_that change change ≡ true
+pub that_self : (change : Change) → is_that change change ≡ true
 that_self change = rw (eq_self change.row, eq_self change.version) refl
 
-some_times : (test : Change → Bool) (x : Change) (xs : List Change) → IsAmong x xs → test x ≡ true → 0 < times test xs
+pub some_times : (test : Change → Bool) (x : Change) (xs : List Change) → IsAmong x xs → test x ≡ true → 0 < times test xs
 some_times test x [] i e = absurd i
 some_times test x (y ∷ xs) (inl s) e = rw (ap test s ∙ e) (omega arith)
 some_times test x (y ∷ xs) (inr i) e = let more : 0 < times test xs = some_times test x xs i e in omega (arith, more)
 
-among_times : (c : Change) (ds : List Change) → 0 < times (is_that c) ds → IsAmong c ds
+pub among_times : (c : Change) (ds : List Change) → 0 < times (is_that c) ds → IsAmong c ds
 among_times c [] h = absurd (omega (arith, h))
 among_times c (d ∷ ds) h = at (is_that c d) refl h (among_times c ds) where
   at : (b : Bool) → is_that c d ≡ b → 0 < cond {A = ℕ} b 1 0 + times (is_that c) ds → (0 < times (is_that c) ds → IsAmong c ds) → IsAmong c (d ∷ ds)

@@ -60,4 +60,5 @@ pub record AreFloorsOf (given : Entry → List Change) (shown : List Placed → 
   pub chained : AreChained given all
   pub phases : AreTopsOf floors.phases (by_phase given all)
   pub actions : AreTopsOf floors.actions (by_action given all)
-  pub known : (seat : SessionRow) → known_at floors.known seat ≡ greatest seat.row (shown (by_session seat.session earlier))
+  pub known : (seat : SessionRow)
+      → known_at floors.known seat ≡ greatest seat.row (shown (by_session seat.session earlier))

@@ -8,7 +8,7 @@ use pfs_event::Entry;
 use pfs_model::Change;
 
 /// The change of a row that an entry is.
-pub(crate) fn row_change(entry: &Entry) -> Option<Change>
+pub fn row_change(entry: &Entry) -> Option<Change>
     ensures { option_to_list result ≡ row_change entry.now }
 {
     match *entry {
@@ -33,7 +33,7 @@ pub(crate) fn word_change(entry: &Entry) -> Option<Change>
 }
 
 /// The release of a row that it is.
-pub(crate) fn release_in(entry: &Entry) -> Option<Change>
+pub fn release_in(entry: &Entry) -> Option<Change>
     ensures { option_to_list result ≡ release_of entry.now }
 {
     match *entry {

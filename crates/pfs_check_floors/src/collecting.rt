@@ -45,7 +45,8 @@ pub struct Collected {
     pub freed: BTreeMap<Change, u64>,
 }
 
-fn push_given(givens: &mut Vec<Given>, at: u64, change: Option<Change>) -> Result<(), NoMemory>
+/// Collects a change, if there is one, with a number. Err where memory runs out.
+pub fn push_given(givens: &mut Vec<Given>, at: u64, change: Option<Change>) -> Result<(), NoMemory>
     ensures { OnOk result (givens.new.items ≡ givens.old.items ++ map (given_at at) (option_to_list change)) }
 {
     match change {

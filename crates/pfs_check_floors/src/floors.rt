@@ -115,8 +115,8 @@ impl Floors {
         or_none(self.phases.greatest(row, phase - 1))
     }
 
-    // How many versions it has by the phase's end.
-    pub(crate) fn had(&self, phase: u64, row: u128) -> u64
+    /// How many versions it has by the phase's end.
+    pub fn had(&self, phase: u64, row: u128) -> u64
         ensures { (given : Entry → List Change) → (shown : List Placed → List Change) → (all : List Placed)
             → (earlier : List Placed) → AreFloorsOf given shown all earlier self.now
             → result ≡ had_by given all phase row }
@@ -124,8 +124,8 @@ impl Floors {
         or_none(self.phases.greatest(row, phase))
     }
 
-    // Its floor: what is named of it stands there or above.
-    pub(crate) fn floor(&self, seat: Seat, row: u128) -> u64
+    /// The floor of a row or a switch word: what is named of it stands there or above.
+    pub fn floor(&self, seat: Seat, row: u128) -> u64
         ensures { (given : Entry → List Change) → (shown : List Placed → List Change) → (all : List Placed)
             → (earlier : List Placed) → (place : Placed) → AreFloorsOf given shown all earlier self.now
             → IsSeatOf seat place → result ≡ floor_by given shown all earlier place row }
@@ -142,8 +142,8 @@ impl Floors {
         greatest_of(begun, seen, acted)
     }
 
-    // Whether it may be seen at a version: from its floor up to what it has by the phase's end.
-    pub(crate) fn is_seen_well(&self, seat: Seat, row: u128, version: u64) -> bool
+    /// Whether it may be seen at a version: from its floor up to what it has by the phase's end.
+    pub fn is_seen_well(&self, seat: Seat, row: u128, version: u64) -> bool
         ensures { (given : Entry → List Change) → (shown : List Placed → List Change) → (all : List Placed)
             → (earlier : List Placed) → (place : Placed) → AreFloorsOf given shown all earlier self.now
             → IsSeatOf seat place

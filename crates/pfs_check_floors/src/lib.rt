@@ -9,10 +9,11 @@ mod releases;
 mod rows;
 mod sights;
 
-pub use collecting::{Collected, Givens};
+pub use changes::{release_in, row_change};
+pub use collecting::{Collected, Givens, push_given};
 pub use floors::{Floors, Seat, SessionRow};
 pub use loads::{Load, Loads, loads_in};
-pub use releases::Releases;
+pub use releases::{Releases, opens_free};
 pub use rows::RowFloors;
 pub use sights::{Sights, is_there};
 

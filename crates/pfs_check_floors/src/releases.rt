@@ -73,7 +73,8 @@ fn was_freed(freed: &BTreeMap<Change, u64>, phase: u64, change: Change) -> bool
     }
 }
 
-fn opens_free(row: u64) -> bool
+/// Whether a row is FREE before its first change.
+pub fn opens_free(row: u64) -> bool
     ensures { result ≡ opens_free row }
 {
     (row > 0 && row < 129) || row >= 8450

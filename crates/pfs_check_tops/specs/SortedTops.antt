@@ -20,8 +20,8 @@ pub record IsUpTo (one other : Given) : Type 0 where
   pub at : one.row ≡ other.row → one.at ≤ other.at
 
 abbrev pub AreInOrder : List Given → Type 0
-AreInOrder givens = (i j : ℕ) (one other : Given) → i ≤ j → slice_get givens i ≡ Some one → slice_get givens j ≡ Some other
-    → IsUpTo one other
+AreInOrder givens = (i j : ℕ) (one other : Given) → i ≤ j → slice_get givens i ≡ Some one
+    → slice_get givens j ≡ Some other → IsUpTo one other
 
 -- a top tells of a given: in its row, at its number, no lower
 pub record Covers (tops : List Given) (one : Given) : Type 0 where

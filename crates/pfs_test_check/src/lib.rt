@@ -2,8 +2,14 @@
 #![tactic(auto)]
 
 #[cfg(test)]
+mod answers;
+#[cfg(test)]
 mod cut;
 #[cfg(test)]
+mod judged;
+#[cfg(test)]
 mod misfits;
+#[cfg(test)]
+mod seen;
 #[cfg(test)]
 mod visits;

@@ -1,0 +1,6 @@
+mod FreeFacts
+mod OwnFacts
+mod PhaseFacts
+mod PutFacts
+mod RangeFacts
+mod WordFacts

@@ -1,0 +1,5 @@
+pub mod CauseIndexes
+pub mod FreeReleases
+pub mod OwnVersions
+pub mod TicketPuts
+pub mod WordTests
