@@ -1,6 +1,6 @@
 -- A row that stood FREE.
 use Rattle.std.proofs.Common.{◌≡◌, refl, ℕ, ◌≤◌, ◌==◌, max, Bool, true, false, ◌&&◌, ◌||◌, nat_le, List, [], ◌∷◌, sym, ◌∙◌, ap, subst, arith, Option, Some, None, inl, inr}
-use Rattle.std.specs.Prelude.{if◌then◌else◌, ◌⊎◌}
+use Rattle.std.specs.Prelude.{if◌then◌else◌}
 use Rattle.std.proofs.lemmas.Bool.{eqb-false, eqb-true, le-leb, leb-false, leb-true, true≢false}
 use Rattle.pfs_check_floors.proofs.GreatestFacts.{keyed_tops, top_of}
 use Rattle.pfs_check_floors.specs.declared.floors.Seat.{Seat}

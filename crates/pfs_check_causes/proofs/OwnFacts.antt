@@ -1,12 +1,10 @@
 -- What each session made itself, and what others made.
 use Rattle.std.proofs.Common.{◌≡◌, refl, ℕ, ◌+◌, ◌<◌, ◌≤◌, ◌==◌, max, Bool, true, false, not, ◌&&◌, cond, nat_lt, nat_le, List, [], ◌∷◌, ◌++◌, sym, ◌∙◌, ap, subst, arith}
-use Rattle.std.proofs.lemmas.Bool.{eqb-false, leb-false, leb-true, lt-ltb, ltb-false, ltb-true}
-use Rattle.std.proofs.lemmas.Bool.Decides.{nat_tests}
+use Rattle.std.proofs.lemmas.Bool.{leb-false, leb-true, lt-ltb, ltb-false, ltb-true}
 use Rattle.std.specs.BTreeSet.{BTreeSet, contains}
 use Rattle.pfs_event.specs.declared.entry.Entry.{Entry}
 use Rattle.pfs_model.proofs.ChainGrowth.{times_append}
 use Rattle.pfs_model.specs.declared.changes.Change.{Change}
-use Rattle.pfs_model.specs.Actions.{IsAmong}
 use Rattle.pfs_model.specs.Causes.{IsOthers, by_others}
 use Rattle.pfs_model.specs.Chains.{AreChained, change_at, each_of, is_of, is_that, row_change, times}
 use Rattle.pfs_model.specs.EntryPlaces.{Placed, by_session, chosen, up_to_phase}

@@ -3,8 +3,7 @@ use Rattle.std.proofs.Common.{◌≡◌, refl, ℕ, zero, suc, ◌+◌, ◌-◌,
 use Rattle.std.specs.Prelude.{if◌then◌else◌, slice_get, Vec, ◌⊎◌}
 use Rattle.std.specs.BTreeMap.{BTreeMap}
 use Rattle.std.specs.declared.alloc.Global.{Global}
-use Rattle.std.proofs.lemmas.Bool.{and_parts, eqb-false, eqb-true, leb-false, leb-true, le-leb, ltb-false, ltb-true}
-use Rattle.std.proofs.lemmas.Bool.Decides.{nat_tests}
+use Rattle.std.proofs.lemmas.Bool.{and_parts, eqb-false, eqb-true, le-leb, leb-false, leb-true, ltb-false, ltb-true}
 use Rattle.std.proofs.lemmas.List.{append-nil}
 use Rattle.std.proofs.lemmas.Option.{same_Some, slice_get-get_or, slice_get_within}
 use Rattle.pfs_event.specs.declared.entry.Entry.{Entry}
@@ -18,6 +17,7 @@ use Rattle.pfs_check_causes.specs.declared.puts.RowTicket.{RowTicket}
 use Rattle.pfs_check_causes.specs.declared.puts.TicketPut.{TicketPut}
 use Rattle.pfs_check_causes.specs.declared.puts.TopPut.{TopPut}
 use Rattle.pfs_check_causes.specs.FreeReleases.{reaches}
+use Rattle.pfs_check_causes.specs.GreatestPuts.{IsGreatestPut, PutsLaw, PutsWorked, greatest_kept}
 use Rattle.pfs_check_causes.specs.TicketPuts.{ArePhased, ArePuts, NeverFallFrom, Parts, greater_of, is_same_ticket, last_top, next_top, others_of, pick, put_of, put_version, tops_at, tops_from, tops_more, version_at}
 
 or_none : (a b : Bool) → a ≡ (a || (false && b))
@@ -417,6 +417,33 @@ put_is puts all key floor own phase top others b known rises t o e =
       is =
           e ∙ ap (λ z. reaches z floor) o ∙ ap (λ z. reaches (others_of own z) floor) (t ∙ ap (pick None phase) (known key) ∙ picked key None phase 0 all rises)
           ∙ folded key floor own None (up_to_phase phase all) nothing
+
+-- the greatest version at which others put a ticket
+pub greatest_told : PutsLaw
+greatest_told all puts known rises key session phase = at (greatest_kept (tops_at puts key) session phase) refl where
+  told : (floor : ℕ) (others : Option ℕ) → greatest_kept (tops_at puts key) session phase ≡ others
+      → Tells (SomePuts key.row key.ticket floor (by_others session (up_to_phase phase all))) (reaches others floor)
+  told floor others e =
+      put_is puts all key floor session phase (pick None phase (tops_at puts key)) others (reaches others floor) known rises refl (sym e) refl
+
+  at : (others : Option ℕ) → greatest_kept (tops_at puts key) session phase ≡ others
+      → IsGreatestPut (by_others session (up_to_phase phase all)) key others
+  at None e = told 0 None e
+  at (Some version) e = (
+    subst (Tells (SomePuts key.row key.ticket version (by_others session (up_to_phase phase all))))
+        (le-leb version version (omega arith)) (told version (Some version) e),
+    subst (Tells (SomePuts key.row key.ticket (version + 1) (by_others session (up_to_phase phase all))))
+        (above version) (told (version + 1) (Some version) e),
+  ) where
+    above : (v : ℕ) → nat_le (v + 1) v ≡ false
+    above v = on (nat_le (v + 1) v) refl where
+      on : (b : Bool) → nat_le (v + 1) v ≡ b → b ≡ false
+      on true q = absurd (omega (arith, leb-true (v + 1) v q))
+      on false q = refl
+
+pub puts_worked : PutsWorked
+unfolding tops_from
+puts_worked = record { first = refl; second = refl; both = refl; later = refl; none = refl }
 
 pub late_tells : (all earlier : List Placed) (place : Placed) (row ticket greater phase session floor : ℕ) (found own same b : Bool) → phase ≡ place.phase
     → session ≡ place.session → floor ≡ floor_of all earlier place row

@@ -1,19 +1,19 @@
 -- The words of a line, and what they show.
 use Rattle.std.proofs.Common.{◌≡◌, ◌≢◌, refl, ℕ, ◌+◌, ◌/◌, ◌%◌, ◌<◌, ◌≤◌, ◌==◌, Bool, true, false, not, ◌&&◌, ◌||◌, cond, nat_lt, nat_le, List, [], ◌∷◌, ◌++◌, sym, ◌∙◌, ap, subst, arith, Option, Some, None, inl, inr}
-use Rattle.std.specs.Prelude.{if◌then◌else◌, ◌⊎◌, IsTrue}
+use Rattle.std.specs.Prelude.{if◌then◌else◌, ◌⊎◌}
 use Rattle.std.specs.BTreeMap.{BTreeMap, get}
 use Rattle.std.specs.BTreeSet.{BTreeSet, contains}
-use Rattle.std.proofs.lemmas.Bool.{eqb-false, eqb-true, leb-false, leb-true, lt-ltb, ltb-false, ltb-true}
+use Rattle.std.proofs.lemmas.Bool.{eqb-false, eqb-true, leb-false, leb-true, ltb-false, ltb-true}
 use Rattle.std.proofs.lemmas.Bool.Decides.{nat_tests}
 use Rattle.pfs_model.specs.declared.changes.Change.{Change}
 use Rattle.pfs_model.specs.Actions.{IsAmong}
 use Rattle.pfs_model.specs.Causes.{AreBusy, IsCaused, IsHeldByOther, IsOthers, IsReleased, IsWord}
-use Rattle.pfs_model.specs.Chains.{AreChained, change_at, each_of, is_of, is_that, release_of, row_change, times}
+use Rattle.pfs_model.specs.Chains.{AreChained, change_at, each_of, is_that, release_of, row_change, times}
 use Rattle.pfs_model.specs.EntryPlaces.{Placed, before_phase, up_to_phase}
 use Rattle.pfs_model.specs.Floors.{floor_of}
 use Rattle.pfs_check_floors.proofs.GreatestFacts.{among_times, some_times, that_self}
 use Rattle.pfs_check_floors.specs.KnownFloors.{Tells, had_by}
-use Rattle.pfs_check_floors.specs.ReleasedRows.{AreFreed, change_cmp, freed_by, was_freed}
+use Rattle.pfs_check_floors.specs.ReleasedRows.{AreFreed, change_cmp, freed_by}
 use Rattle.pfs_check_causes.specs.declared.own.OwnChange.{OwnChange}
 use Rattle.pfs_check_causes.specs.OwnVersions.{AreOwn, HasBetween, own_at, own_cmp, was_made}
 use Rattle.pfs_check_causes.specs.WordTests.{busy_test, freed_up_to}

@@ -1,5 +1,5 @@
 -- What is kept of all entries, to tell the causes of lines.
-use Rattle.std.specs.Prelude.{ℕ, ◌≡◌, List}
+use Rattle.std.specs.Prelude.{◌≡◌, List}
 use Rattle.pfs_check_floors.specs.KeyedGivens.{by_phase}
 use Rattle.pfs_check_tops.specs.SortedTops.{AreTopsOf}
 use Rattle.pfs_model.specs.Chains.{release_of}

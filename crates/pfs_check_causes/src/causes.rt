@@ -78,8 +78,8 @@ impl CauseGivens {
 }
 
 impl Causes {
-    /// Whether an entry at a place shows its cause: a `held`, a `busy`, a `late` or a `vacant` line, by what all entries
-    /// give and what the session has seen before. The phases of a report never fall.
+    /// Whether an entry at a place shows its cause: a `held`, a `busy`, a `late` or a `vacant` line, by what all
+    /// entries give and what the session has seen before. The phases of a report never fall.
     pub fn show(&self, rows: &RowFloors, seat: Seat, entry: &Entry) -> bool
         ensures { (all : List Placed) → (earlier : List Placed) → (place : Placed) → AreRowsOf all earlier rows.now
             → AreCauses all self.now → NeverFallFrom 0 all → IsSeatOf seat place

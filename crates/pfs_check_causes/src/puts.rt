@@ -120,7 +120,8 @@ fn take_tops(
     key: RowTicket,
 ) -> Vec<PhasedTop>
     ensures items { result.items ≡ tops_at puts.old key }
-    ensures others { (other : RowTicket) → is_same_ticket key other ≡ false → tops_at puts.new other ≡ tops_at puts.old other }
+    ensures others { (other : RowTicket) → is_same_ticket key other ≡ false
+        → tops_at puts.new other ≡ tops_at puts.old other }
 {
     match puts.remove(&key) {
         Some(tops) => tops,

@@ -1,4 +1,3 @@
-use Rattle.std.proofs.Common.{subst}
 use Rattle.pfs_check_causes.proofs.causes.CauseGivens.into_causes.Goals as goal
 
 pub returns : goal.returns

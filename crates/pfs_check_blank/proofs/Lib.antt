@@ -1,0 +1,2 @@
+mod BlankWorks
+mod OpenStores

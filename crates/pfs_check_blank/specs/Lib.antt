@@ -1,0 +1,3 @@
+pub mod AllAsked
+pub mod BlankStores
+pub mod ReadyStores

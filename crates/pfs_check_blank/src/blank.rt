@@ -1,0 +1,82 @@
+//! A store that holds nothing but the switch words.
+
+ghost use Rattle.std.specs.Prelude.{◌≡◌, Some, length};
+ghost use Rattle.pfs_check_blank.specs.BlankStores.{AllFound, hand_at};
+
+use pfs_board::Content;
+use pfs_levels::{Added, Hold, RingPut, Rows, Word};
+use pfs_rows::Seen;
+use pfs_stat::Stat;
+
+/// What each row is found to hold: a cell that has counted one event.
+const ONE: Content = [1, 0, 0, 0, 0, 0, 0, 0, 0, 0, 0, 0, 0, 0, 0, 0];
+
+/// A store of which each row is found at version 0, with something counted in it, whatever was put there. Of what it is
+/// given it keeps the switch words, and which rows are in hand.
+#[derive(Drop)]
+pub struct Blank {
+    pub(crate) words: Vec<Word>,
+    pub(crate) taken: Vec<bool>,
+    ghost wide: { (length words.items ≡ 160) × (length taken.items ≡ 14242) },
+}
+
+impl Rows for Blank {
+    ghost seen = { λ s. record {
+      reached = λ start calls. AllFound calls;
+      hand = λ row. hand_at s.taken.items row;
+      left = 32768;
+      draws = 1;
+      words = Some s.words.items;
+      name = 0;
+    } };
+
+    fn add_try(&mut self, row: u64, amount: &Stat) -> Added {
+        let _ = amount;
+        Added::Counted { row, version: 1 }
+    }
+
+    fn ring_try(&mut self, row: u64, content: &Content) -> RingPut {
+        let _ = row;
+        let _ = content;
+        RingPut::Done { version: 1 }
+    }
+
+    fn read(&mut self, row: u64) -> Seen {
+        let _ = row;
+        Seen::Free { word: 0 }
+    }
+
+    fn load(&mut self, word: u64) -> (u64, u16) {
+        let found = self.words[word as usize];
+        (found.version, found.flags)
+    }
+
+    fn ticket(&mut self, kind: u64) -> u64 {
+        let _ = kind;
+        0
+    }
+}
+
+impl Hold for Blank {
+    fn take(&mut self, row: u64) -> (u64, Content) {
+        self.taken[row as usize] = true;
+        (0, ONE)
+    }
+
+    fn put(&mut self, row: u64, content: &Content) -> u64 {
+        let _ = content;
+        self.taken[row as usize] = false;
+        1
+    }
+
+    fn free(&mut self, row: u64) {
+        self.taken[row as usize] = false;
+    }
+
+    fn set(&mut self, word: u64, flags: u16) -> u64 {
+        let at = word as usize;
+        let version = self.words[at].version + 1;
+        self.words[at] = Word { version, flags };
+        version
+    }
+}
