@@ -90,9 +90,9 @@ has_left setting change what admin after s turns number was begun did now are fo
     let entered = begins start calls h.0 in
     let labels : List Label = entered.0 in
     let there : now.reached start (Leaves ∷ (its ++ Enters label labels ∷ calls)) = leaves start (its ++ Enters label labels ∷ calls) (goes start (Enters label labels ∷ calls) entered.1.1) in
-    let e : around label labels (Some number) its ++ calls ≡ Leaves ∷ (its ++ Enters label labels ∷ calls) = around_calls label labels its calls in
-    let behind : HasEntered calls label labels (Some number) its =
-    has_entered start.flags calls label labels (Some number) its (calls_within turns (turns_within s turns are)) (subst (AllAnswer start.flags) (sym e) (told start (Leaves ∷ (its ++ Enters label labels ∷ calls)) there)) in
+    let e : around label labels None (Some number) its ++ calls ≡ Leaves ∷ (its ++ Enters label labels ∷ calls) = around_calls label labels its calls in
+    let behind : HasEntered calls label labels None (Some number) its =
+    has_entered start.flags calls label labels None (Some number) its (calls_within turns (turns_within s turns are)) (subst (AllAnswer start.flags) (sym e) (told start (Leaves ∷ (its ++ Enters label labels ∷ calls)) there)) in
     record {
       labels = labels;
       found = subst (λ (z : List Label). StandsFor setting change z admin) (sym behind.behind) h.1;
@@ -119,7 +119,7 @@ has_done setting change what deed admin after number count old new was begun did
       leads = λ start calls h.
           let left : HasLeft setting change admin label (turns_calls played.turns) start calls reached = has_left setting change what admin after old.state played.turns number was begun did now played.are_turns follows named told begins played.did.goes leaves start calls h in
           record {
-            doings = (record { part = its; label = label; labels = left.labels }) ∷ [];
+            doings = (record { part = its; label = label; labels = left.labels; met = None }) ∷ [];
             parts_are = refl;
             labelled = (subst (λ (n : Option ℕ). IfSome n (λ k. label ≡ label)) (sym acts) refl, tt);
             folded = (folds left.labels left.found, tt);
@@ -127,8 +127,8 @@ has_done setting change what deed admin after number count old new was begun did
           };
     }
   where
-    one_doing : (its : Part) (label : Label) (labels : List Label) → action_of its.deed ≡ Some count → doings_calls ((record { part = its; label = label; labels = labels }) ∷ []) ≡ Leaves ∷ (part_calls its ++ Enters label labels ∷ [])
-    one_doing its label labels is = ap (λ (n : Option ℕ). around label labels n (part_calls its)) is
+    one_doing : (its : Part) (label : Label) (labels : List Label) → action_of its.deed ≡ Some count → doings_calls ((record { part = its; label = label; labels = labels; met = None }) ∷ []) ≡ Leaves ∷ (part_calls its ++ Enters label labels ∷ [])
+    one_doing its label labels is = ap (λ (n : Option ℕ). around label labels None n (part_calls its)) is
 
 -- that is its action
 pub has_acted : (setting : Setting) (change : Label → Change) (what : Change) (make : Administration → Deed) (admin after : Administration) (number count : ℕ) (old new : Book) (was begun did now : Store) → action_of (make admin) ≡ Some count
@@ -181,6 +181,7 @@ has_broken_off setting change admin after number old new was begun did now follo
   leads = λ start calls h.
       let left : HasLeft setting change admin (label_of old.state) (turns_calls noted.turns) start calls (between setting change now after).reached = has_left setting change (Setup Show) admin after old.state noted.turns number was begun did now noted.are_turns follows named told begins noted.did.goes leaves start calls h in (
         left.labels,
+        None,
         left.found,
         left.reached,
       );

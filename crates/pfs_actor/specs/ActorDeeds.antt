@@ -1,5 +1,5 @@
 -- What a session did over an actor, for a run that contracts name.
-use Rattle.std.specs.Prelude.{ℕ, ◌≡◌, List, [], ◌∷◌, ◌++◌, IfSome, length}
+use Rattle.std.specs.Prelude.{ℕ, ◌≡◌, List, [], ◌∷◌, ◌++◌, IfSome, Option, length}
 use Rattle.pfs_admin.specs.AdministrationStates.{State as Administration}
 use Rattle.pfs_admin.specs.Fold.{StandsFor}
 use Rattle.pfs_admin.specs.declared.changes.Change.{Change}
@@ -10,10 +10,10 @@ use Rattle.pfs_classes.specs.declared.setting.Setting.{Setting}
 use Rattle.pfs_exec.specs.Selections.{IsAnswer}
 use Rattle.pfs_exec.specs.declared.query.Select.{Select}
 use Rattle.pfs_law_plain.specs.ActionFolds.{DoingsFolded}
-use Rattle.pfs_law_plain.specs.Spells.{Doing, doings_calls, label_of, parts_in}
+use Rattle.pfs_law_plain.specs.Spells.{Doing, doings_calls, entering, label_of, parts_in}
 use Rattle.pfs_law_session.specs.Deeds.{Deed, Part, Showing, action_of}
 use Rattle.pfs_law_session.specs.JournalLaws.{AreParts, entries_of, state_behind}
-use Rattle.pfs_levels.specs.Calls.{Call, Enters, Leaves, Opening}
+use Rattle.pfs_levels.specs.Calls.{Call, Leaves, Opening}
 use Rattle.pfs_model.specs.JournalCuts.{joined}
 use Rattle.pfs_session.specs.SessionStates.{State, Book}
 use Rattle.pfs_session.specs.Turns.{AreTurns, Changes, SettlesHeld, Turn, state_after, steps_of, turns_calls, turns_entries}
@@ -76,5 +76,5 @@ pub record HasBrokenOff (setting : Setting) (change : Label → Change) (old new
   pub entries_are : new.journal.entries ≡ old.journal.entries ++ turns_entries turns
   pub named : change (label_of old.state) ≡ Setup Show
   pub leads : (start : Opening) → (calls : List Call) → was start calls → (labels : List Label)
-      × StandsFor setting change labels admin
-      × now start (Leaves ∷ (turns_calls turns ++ Enters (label_of old.state) labels ∷ calls))
+      × (met : Option (List ℕ)) × StandsFor setting change labels admin
+      × now start (Leaves ∷ (turns_calls turns ++ (entering (label_of old.state) labels met ++ calls)))

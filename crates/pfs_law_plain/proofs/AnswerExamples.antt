@@ -126,7 +126,7 @@ query setting = record {
 }
 
 abbrev done : Part → Doing
-done part = record { part = part; label = record { session = 0; line = 0 }; labels = [] }
+done part = record { part = part; label = record { session = 0; line = 0 }; labels = []; met = None }
 
 abbrev first : Setting → Spell
 first setting = record { phase = 0; session = 1; doings = done (query setting) ∷ done (closing (one setting)) ∷ [] }
@@ -162,7 +162,7 @@ abbrev second : Setting → Spell
 second setting = record {
   phase = 0;
   session = 2;
-  doings = record { part = show setting; label = record { session = 2; line = 1 }; labels = [] } ∷ done (closing (acts setting).after) ∷ [];
+  doings = record { part = show setting; label = record { session = 2; line = 1 }; labels = []; met = None } ∷ done (closing (acts setting).after) ∷ [];
 }
 
 abbrev spells : Setting → List Spell

@@ -1,7 +1,7 @@
 -- What the entries of a block and the calls of its stint tell is the same.
 use Rattle.std.proofs.Common.{ℕ, ◌≡◌, List, [], ◌∷◌, ◌++◌, Option, Some, None, refl, ap, sym, ◌∙◌}
 use Rattle.pfs_event.specs.declared.entry.Entry.{Entry}
-use Rattle.pfs_levels.specs.Calls.{Call, Enters}
+use Rattle.pfs_levels.specs.Calls.{Call}
 use Rattle.pfs_model.specs.declared.lines.Line.{Line}
 use Rattle.pfs_model.specs.Contexts.{Context, noted, after, subject_of, turned}
 use Rattle.pfs_model.specs.EntryPlaces.{Placed, placed_part, placed_lines}
@@ -12,7 +12,7 @@ use Rattle.pfs_law_session.specs.Deeds.{line_of, part_calls, part_entries, actio
 use Rattle.pfs_law_session.specs.JournalLaws.{AreParts, AllLoadsAgree, lines_of, entries_of, state_behind}
 use Rattle.pfs_law_plain.specs.Notes.{all_told}
 use Rattle.pfs_law_plain.specs.SessionNotes.{parts_notes}
-use Rattle.pfs_law_plain.specs.Spells.{Doing, around, doing_calls, doings_calls, parts_in, AreEntered}
+use Rattle.pfs_law_plain.specs.Spells.{Doing, around, entering, doing_calls, doings_calls, parts_in, AreEntered}
 use Rattle.pfs_law_plain.proofs.InnerEntries.{told_then}
 use Rattle.pfs_law_plain.proofs.QuietSessions.{AreAdded, added_front, added_back, AreQuiet}
 use Rattle.pfs_law_plain.proofs.LineAgreement.{AreQuietPlaces}
@@ -57,9 +57,9 @@ pub loads_back : (flags : ℕ → ℕ → ℕ) (xs ys : List Call) → LoadsAgre
 loads_back flags [] ys a = a
 loads_back flags (x ∷ xs) ys a = loads_back flags xs ys a.1
 
-around_loads : (flags : ℕ → ℕ → ℕ) (d : Doing) (action : Option ℕ) (calls : List Call) → LoadsAgree flags (around d.label d.labels action calls) → LoadsAgree flags calls
+around_loads : (flags : ℕ → ℕ → ℕ) (d : Doing) (action : Option ℕ) (calls : List Call) → LoadsAgree flags (around d.label d.labels d.met action calls) → LoadsAgree flags calls
 around_loads flags d None calls a = a
-around_loads flags d (Some number) calls a = loads_front flags calls (Enters d.label d.labels ∷ []) a.1
+around_loads flags d (Some number) calls a = loads_front flags calls (entering d.label d.labels d.met) a.1
 
 pub block_loads : (flags : ℕ → ℕ → ℕ) (doings : List Doing) → LoadsAgree flags (doings_calls doings) → AllLoadsAgree flags (parts_in doings)
 block_loads flags [] a = tt

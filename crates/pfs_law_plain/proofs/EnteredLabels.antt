@@ -6,7 +6,7 @@ use Rattle.std.proofs.lemmas.List.{append_assoc, append-nil}
 use Rattle.pfs_law_plain.specs.Spells.{Doing, Spell, around, doing_calls, doings_calls, parts_in, stints_of, calls_of}
 use Rattle.pfs_board.specs.declared.view.Label.{Label}
 use Rattle.pfs_levels.proofs.ActorFloors.{answers_rest}
-use Rattle.pfs_levels.specs.Calls.{Call, Enters, label_in}
+use Rattle.pfs_levels.specs.Calls.{Call, Enters, Meets, label_in}
 use Rattle.pfs_levels.specs.PlainStore.{AllAnswer, labels_after}
 use Rattle.pfs_law_session.specs.Deeds.{action_of, part_calls}
 use Rattle.pfs_law_session.specs.JournalLaws.{AreParts}
@@ -38,15 +38,18 @@ AllBehind before [] = Unit {0}
 AllBehind before (spell ∷ spells) = AreBehind before spell.doings × AllBehind (before ++ labels_in spell.doings) spells
 
 -- one doing
-pub record HasEntered (past : List Call) (label : Label) (labels : List Label) (action : Option ℕ) (calls : List Call) : Type 0 where
-  pub now : labels_after (around label labels action calls ++ past) ≡ labels_after past ++ label_by action label
+pub record HasEntered (past : List Call) (label : Label) (labels : List Label) (met : Option (List ℕ)) (action : Option ℕ) (calls : List Call) : Type 0 where
+  pub now : labels_after (around label labels met action calls ++ past) ≡ labels_after past ++ label_by action label
   pub behind : IfSome action (λ number. labels ≡ labels_after past)
 
-pub has_entered : (flags : List ℕ) (past : List Call) (label : Label) (labels : List Label) (action : Option ℕ) (calls : List Call) → AreWithin calls
-    → AllAnswer flags (around label labels action calls ++ past) → HasEntered past label labels action calls
+pub has_entered : (flags : List ℕ) (past : List Call) (label : Label) (labels : List Label) (met : Option (List ℕ)) (action : Option ℕ) (calls : List Call) → AreWithin calls
+    → AllAnswer flags (around label labels met action calls ++ past) → HasEntered past label labels met action calls
 unfolding labels_after
-has_entered flags past label labels None calls w a = record { now = no_label_more calls past w ∙ sym (append-nil (labels_after past)); behind = tt }
-has_entered flags past label labels (Some number) calls w a =
+has_entered flags past label labels met None calls w a = record { now = no_label_more calls past w ∙ sym (append-nil (labels_after past)); behind = tt }
+has_entered flags past label labels (Some versions) (Some number) calls w a =
+    let e : (calls ++ Meets versions ∷ Enters label labels ∷ []) ++ past ≡ calls ++ Meets versions ∷ Enters label labels ∷ past = append_assoc calls (Meets versions ∷ Enters label labels ∷ []) past in
+    absurd (answers_rest flags calls (Meets versions ∷ Enters label labels ∷ past) (subst (AllAnswer flags) e a.1)).0
+has_entered flags past label labels None (Some number) calls w a =
     let e : (calls ++ Enters label labels ∷ []) ++ past ≡ calls ++ Enters label labels ∷ past = append_assoc calls (Enters label labels ∷ []) past in
     let inner : AllAnswer flags (Enters label labels ∷ past) = answers_rest flags calls (Enters label labels ∷ past) (subst (AllAnswer flags) e a.1) in
     record {
@@ -66,8 +69,8 @@ have_entered flags past s (d ∷ ds) are a =
     let e : (doings_calls ds ++ doing_calls d) ++ past ≡ doings_calls ds ++ (doing_calls d ++ past) = append_assoc (doings_calls ds) (doing_calls d) past in
     let moved : AllAnswer flags (doings_calls ds ++ (doing_calls d ++ past)) = subst (AllAnswer flags) e a in
     let within : AreWithin (part_calls d.part) = calls_within d.part.turns (turns_within s d.part.turns are.0.are_turns) in
-    let one : HasEntered past d.label d.labels (action_of d.part.deed) (part_calls d.part) =
-    has_entered flags past d.label d.labels (action_of d.part.deed) (part_calls d.part) within (answers_rest flags (doings_calls ds) (doing_calls d ++ past) moved) in
+    let one : HasEntered past d.label d.labels d.met (action_of d.part.deed) (part_calls d.part) =
+    has_entered flags past d.label d.labels d.met (action_of d.part.deed) (part_calls d.part) within (answers_rest flags (doings_calls ds) (doing_calls d ++ past) moved) in
     let r : HaveEntered (doing_calls d ++ past) ds = have_entered flags (doing_calls d ++ past) (state_after s d.part.turns) ds are.1 moved in
     let own : List Label = label_by (action_of d.part.deed) d.label in
     record {

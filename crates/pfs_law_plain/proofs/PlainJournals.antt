@@ -23,7 +23,7 @@ use Rattle.pfs_law_session.specs.Stints.{Stint, block_of, blocks_of, resumed, st
 use Rattle.pfs_law_session.proofs.Journals.{journals}
 use Rattle.pfs_law_session.proofs.Stints.{state_more, told_more, blocks_more}
 use Rattle.pfs_law_plain.specs.Notes.{notes_of, all_told}
-use Rattle.pfs_law_plain.specs.Spells.{Doing, Spell, around, doing_calls, doings_calls, parts_in, stint_of, stints_of, calls_of, AllEntered, AreSpells}
+use Rattle.pfs_law_plain.specs.Spells.{Doing, Spell, around, entering, doing_calls, doings_calls, parts_in, stint_of, stints_of, calls_of, AllEntered, AreSpells}
 use Rattle.pfs_law_plain.specs.PlainJournals.{AloneLaw, printed}
 use Rattle.pfs_law_plain.specs.SessionNotes.{Sits}
 use Rattle.pfs_law_plain.proofs.InnerEntries.{told_then}
@@ -140,11 +140,16 @@ plain_loads of flags calls same a =
     (subst (λ z. AllAgree flags (content_at (ops_of z)) (changes_of z) (sets_of z) z) e j.agrees)
 
 -- the puts to the long history among all calls, and the tickets that the journals print
-around_ticketed : (label : Label) (labels : List Label) (action : Option ℕ) (calls : List Call) (entries : List Entry) → IsTicketed calls entries → IsTicketed (around label labels action calls) entries
-around_ticketed label labels None calls entries t = t
-around_ticketed label labels (Some number) calls entries t = record {
-  paired = paired_then None calls (Enters label labels ∷ []) t.paired tt;
-  same = t.same ∙ sym (append-nil (all_ticketed (calls ++ Enters label labels ∷ [])) ∙ ticketed_then calls (Enters label labels ∷ []));
+around_ticketed : (label : Label) (labels : List Label) (met : Option (List ℕ)) (action : Option ℕ) (calls : List Call) (entries : List Entry) → IsTicketed calls entries
+    → IsTicketed (around label labels met action calls) entries
+around_ticketed label labels met None calls entries t = t
+around_ticketed label labels None (Some number) calls entries t = record {
+  paired = paired_then None calls (entering label labels None) t.paired tt;
+  same = t.same ∙ sym (append-nil (all_ticketed (calls ++ entering label labels None)) ∙ ticketed_then calls (entering label labels None));
+}
+around_ticketed label labels (Some versions) (Some number) calls entries t = record {
+  paired = paired_then None calls (entering label labels (Some versions)) t.paired tt;
+  same = t.same ∙ sym (append-nil (all_ticketed (calls ++ entering label labels (Some versions))) ∙ ticketed_then calls (entering label labels (Some versions)));
 }
 
 part_tickets : (phase session : ℕ) (line : Line) (context : Context) (es : List Entry) → each_of ticketed_at (placed_part phase session line context es) ≡ tickets_in es
@@ -164,7 +169,7 @@ doings_ticketed : (phase session : ℕ) (context : Context) (s : State) (doings 
 doings_ticketed phase session context s [] are = record { paired = tt; same = refl }
 doings_ticketed phase session context s (d ∷ ds) are =
     let line : Line = line_of d.part.deed in
-    let t = around_ticketed d.label d.labels (action_of d.part.deed) (part_calls d.part) (part_entries d.part) (turns_ticketed s d.part.turns are.0.are_turns) in
+    let t = around_ticketed d.label d.labels d.met (action_of d.part.deed) (part_calls d.part) (part_entries d.part) (turns_ticketed s d.part.turns are.0.are_turns) in
     let next : Context = after context line (part_entries d.part) in
     let r = doings_ticketed phase session next (state_after s d.part.turns) ds are.1 in
     let here : List Placed = placed_part phase session line (turned context) (part_entries d.part) in

@@ -7,13 +7,13 @@ use Rattle.pfs_law_plain.proofs.InnerEntries.{told_then}
 use Rattle.pfs_law_plain.proofs.LineNotes.{told_through}
 use Rattle.pfs_law_plain.proofs.NextNotes.{acts}
 use Rattle.pfs_law_plain.specs.Notes.{saw_all, notes_at, notes_of, all_told}
-use Rattle.pfs_law_plain.specs.Spells.{Doing, Spell, around, doing_calls, doings_calls, parts_in, stints_of, calls_of}
+use Rattle.pfs_law_plain.specs.Spells.{Doing, Spell, around, entering, doing_calls, doings_calls, parts_in, stints_of, calls_of}
 use Rattle.pfs_law_plain.specs.SessionNotes.{head_of, turns_notes, parts_notes}
 use Rattle.pfs_board.specs.declared.view.Label.{Label}
 use Rattle.pfs_event.specs.declared.entry.Entry.{Entry}
 use Rattle.pfs_event.specs.declared.entry.Entry.TheVariants as says
 use Rattle.pfs_event.specs.declared.open.Open.{Open}
-use Rattle.pfs_levels.specs.Calls.{Call, Enters}
+use Rattle.pfs_levels.specs.Calls.{Call}
 use Rattle.pfs_model.specs.Actions.{numbers_by}
 use Rattle.pfs_model.specs.Chains.{action_change, change_at, each_of}
 use Rattle.pfs_model.specs.Contexts.{Context, subject_of}
@@ -195,11 +195,15 @@ each_label all session made (d ∷ ds) l a = by_action (action_of d.part.deed) l
         line_is n i = omega arith
 
 -- and there are as many
-doing_count : (label : Label) (labels : List Label) (action : Option ℕ) (calls : List Call) → AreWithin calls → length (acts (all_told (around label labels action calls))) ≡ length (label_by action label)
+doing_count : (label : Label) (labels : List Label) (met : Option (List ℕ)) (action : Option ℕ) (calls : List Call) → AreWithin calls
+    → length (acts (all_told (around label labels met action calls))) ≡ length (label_by action label)
 unfolding all_told
-doing_count label labels None calls w = ap length (no_acts calls w)
-doing_count label labels (Some number) calls w =
-    ap (λ z. length (acts z)) (append-nil (all_told (calls ++ Enters label labels ∷ [])) ∙ told_then calls (Enters label labels ∷ [])) ∙ ap (λ z. suc (length z)) (no_acts calls w)
+doing_count label labels met None calls w = ap length (no_acts calls w)
+doing_count label labels None (Some number) calls w =
+    ap (λ z. length (acts z)) (append-nil (all_told (calls ++ entering label labels None)) ∙ told_then calls (entering label labels None)) ∙ ap (λ z. suc (length z)) (no_acts calls w)
+doing_count label labels (Some versions) (Some number) calls w =
+    ap (λ z. length (acts z)) (append-nil (all_told (calls ++ entering label labels (Some versions))) ∙ told_then calls (entering label labels (Some versions)))
+    ∙ ap (λ z. suc (length z)) (no_acts calls w)
 
 count_then : (xs ys : List Call) → length (acts (all_told (xs ++ ys))) ≡ length (acts (all_told ys)) + length (acts (all_told xs))
 count_then xs ys = ap (λ z. length (acts z)) (told_then xs ys) ∙ (ap length (acts_then (all_told ys) (all_told xs)) ∙ length-append (acts (all_told ys)) (acts (all_told xs)))
@@ -210,7 +214,7 @@ doings_count s [] are = refl
 doings_count s (d ∷ ds) are =
     let own : List Label = label_by (action_of d.part.deed) d.label in
     let one : length (acts (all_told (doing_calls d))) ≡ length own =
-    doing_count d.label d.labels (action_of d.part.deed) (part_calls d.part) (calls_within d.part.turns (turns_within s d.part.turns are.0.are_turns)) in
+    doing_count d.label d.labels d.met (action_of d.part.deed) (part_calls d.part) (calls_within d.part.turns (turns_within s d.part.turns are.0.are_turns)) in
     let rest : length (acts (all_told (doings_calls ds))) ≡ length (labels_in ds) = doings_count (state_after s d.part.turns) ds are.1 in
     let both : length (own ++ labels_in ds) ≡ length own + length (labels_in ds) = length-append own (labels_in ds) in
     count_then (doings_calls ds) (doing_calls d) ∙ omega (arith, one, rest, both)

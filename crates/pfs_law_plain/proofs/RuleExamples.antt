@@ -223,7 +223,7 @@ abbrev pub connect_part : Administration → ℕ → ℕ → State → Part
 connect_part admin user host s = record { deed = Connecting admin user host; turns = connect_turn admin user host s ∷ [] }
 
 abbrev pub done : Deed → Turn → Doing
-done deed turn = record { part = record { deed = deed; turns = turn ∷ [] }; label = label 0 0; labels = [] }
+done deed turn = record { part = record { deed = deed; turns = turn ∷ [] }; label = label 0 0; labels = []; met = None }
 
 -- a wait of class 0 starts and ends
 abbrev pub wait : Subject
@@ -292,7 +292,7 @@ abbrev pub first : Spell
 first = record {
   phase = 0;
   session = 1;
-  doings = record { part = connect_part opening 0 1 (fresh 1 2 5); label = label 1 1; labels = [] }
+  doings = record { part = connect_part opening 0 1 (fresh 1 2 5); label = label 1 1; labels = []; met = None }
       ∷ done (Starting wait) start_turn ∷ done (Ending no_numbers) end_turn ∷ done Closing (close_turn end_turn.after) ∷ [];
 }
 
@@ -303,7 +303,7 @@ abbrev pub second : Spell
 second = record {
   phase = 0;
   session = 2;
-  doings = record { part = connect_part between 1 0 (fresh 2 2 5); label = label 2 1; labels = label 1 1 ∷ [] } ∷ done Closing (close_turn second_seated) ∷ [];
+  doings = record { part = connect_part between 1 0 (fresh 2 2 5); label = label 2 1; labels = label 1 1 ∷ []; met = None } ∷ done Closing (close_turn second_seated) ∷ [];
 }
 
 -- the first session ends: its cells go up, of which one has counted something; newest first
@@ -354,6 +354,7 @@ third = record {
     part = record { deed = Quitting last; turns = quit_turn ∷ close_turn back ∷ [] };
     label = label 1 2;
     labels = label 1 1 ∷ label 2 1 ∷ [];
+    met = None;
   } ∷ done Closing (close_turn quit_turn.after) ∷ [];
 }
 

@@ -5,14 +5,14 @@ use Rattle.pfs_admin.specs.OpeningState.{opening_flags}
 use Rattle.pfs_admin.specs.declared.changes.Change.{Change}
 use Rattle.pfs_law_plain.proofs.PrintedFlags.{printed_same}
 use Rattle.pfs_law_plain.proofs.PlainJournals.{one_actor, AreTogether, together}
-use Rattle.pfs_law_plain.specs.Spells.{Doing, Spell, around, doing_calls, doings_calls, parts_in, stint_of, stints_of, calls_of, IsEntered, AreEntered, AllEntered}
+use Rattle.pfs_law_plain.specs.Spells.{Doing, Spell, around, entering, doing_calls, doings_calls, parts_in, stint_of, stints_of, calls_of, IsEntered, AreEntered, AllEntered}
 use Rattle.pfs_board.specs.declared.view.Label.{Label}
 use Rattle.pfs_classes.specs.declared.setting.Setting.{Setting}
 use Rattle.pfs_event.specs.declared.entry.Entry.{Entry}
 use Rattle.pfs_exec.specs.declared.query.Select.{Select}
 use Rattle.pfs_law_plain.specs.ToldAnswers.{IsQuery, IsShow, Answers}
 use Rattle.pfs_levels.proofs.PlainChanges.{plain_joint, plain_words}
-use Rattle.pfs_levels.specs.Calls.{Call, Enters}
+use Rattle.pfs_levels.specs.Calls.{Call}
 use Rattle.pfs_levels.specs.JointCalls.{all_calls}
 use Rattle.pfs_levels.specs.PlainStore.{AllAnswer, ops_of, content_at}
 use Rattle.pfs_matching.specs.ObjectRules.{opening_objects}
@@ -86,10 +86,10 @@ one_answered setting change labels opening all flags s (Held select) d answer sa
     show_shown setting change labels d.label d.labels s select d.part.turns answer d.part.deed is.are_turns is.steps_are folds enters stands a
 
 -- the calls of a part among those of its doing
-own_finds : (opening : List ℕ) (all : List Call) (label : Label) (labels : List Label) (action : Option ℕ) (calls : List Call) → Finds opening all (around label labels action calls)
+own_finds : (opening : List ℕ) (all : List Call) (label : Label) (labels : List Label) (met : Option (List ℕ)) (action : Option ℕ) (calls : List Call) → Finds opening all (around label labels met action calls)
     → Finds opening all calls
-own_finds opening all label labels None calls f = f
-own_finds opening all label labels (Some number) calls f = finds_front opening all calls (Enters label labels ∷ []) f.1
+own_finds opening all label labels met None calls f = f
+own_finds opening all label labels met (Some number) calls f = finds_front opening all calls (entering label labels met) f.1
 
 doings_answered : (setting : Setting) (change : Label → Change) (labels : List Label) (opening : List ℕ) (all : List Call) (flags : ℕ → ℕ → ℕ) (s : State) (selections : List (Option Selection))
     (ds : List Doing) (answers : List Answer) → SameFlags opening all flags → AreParts s (parts_in ds) → Finds opening all (doings_calls ds) → AreEntered s ds → DoingsFolded setting change ds
@@ -106,7 +106,7 @@ doings_answered setting change labels opening all flags s (None ∷ selections) 
     folds.1 stands.1 a
 doings_answered setting change labels opening all flags s (Some selection ∷ selections) (d ∷ ds) (answer ∷ answers) same are f enters folds stands a = (
   one_answered setting change labels opening all flags s selection d answer same are.0
-      (own_finds opening all d.label d.labels (action_of d.part.deed) (part_calls d.part) (finds_back opening all (doings_calls ds) (doing_calls d) f)) enters.0 folds.0 stands.0 a.0,
+      (own_finds opening all d.label d.labels d.met (action_of d.part.deed) (part_calls d.part) (finds_back opening all (doings_calls ds) (doing_calls d) f)) enters.0 folds.0 stands.0 a.0,
   doings_answered setting change labels opening all flags (state_after s d.part.turns) selections ds answers same are.1 (finds_front opening all (doings_calls ds) (doing_calls d) f) enters.1
       folds.1 stands.1 a.1,
 )

@@ -2,10 +2,10 @@
 use Rattle.std.proofs.Common.{ℕ, ◌≡◌, ◌==◌, Bool, true, false, cond, List, [], ◌∷◌, ◌++◌, Option, Some, None, refl, ap, sym, ◌∙◌, subst, arith}
 use Rattle.std.specs.Prelude.{nat_lt, ◌&&◌, if◌then◌else◌}
 use Rattle.pfs_law_plain.proofs.PlainJournals.{one_actor}
-use Rattle.pfs_law_plain.specs.Spells.{Doing, Spell, around, doing_calls, doings_calls, parts_in, stints_of, calls_of}
+use Rattle.pfs_law_plain.specs.Spells.{Doing, Spell, around, entering, doing_calls, doings_calls, parts_in, stints_of, calls_of}
 use Rattle.pfs_board.specs.declared.view.Label.{Label}
 use Rattle.pfs_levels.proofs.PlainChanges.{plain_joint}
-use Rattle.pfs_levels.specs.Calls.{Call, Enters}
+use Rattle.pfs_levels.specs.Calls.{Call}
 use Rattle.pfs_levels.specs.RowWords.{opening_content}
 use Rattle.pfs_levels.specs.JointCalls.{AllAgree, changes_of, sets_of, all_calls}
 use Rattle.pfs_levels.specs.PlainStore.{AllAnswer, Op, ops_of, is_put, puts_in, content_by, content_at}
@@ -40,14 +40,14 @@ back : (content : ℕ → ℕ → List ℕ) (xs ys : List Call) → ContentsAgre
 back content [] ys a = a
 back content (x ∷ xs) ys a = back content xs ys a.1
 
-around_agrees : (content : ℕ → ℕ → List ℕ) (label : Label) (labels : List Label) (action : Option ℕ) (calls : List Call) → ContentsAgree content (around label labels action calls) → ContentsAgree content calls
-around_agrees content label labels None calls a = a
-around_agrees content label labels (Some number) calls a = front content calls (Enters label labels ∷ []) a.1
+around_agrees : (content : ℕ → ℕ → List ℕ) (label : Label) (labels : List Label) (met : Option (List ℕ)) (action : Option ℕ) (calls : List Call) → ContentsAgree content (around label labels met action calls) → ContentsAgree content calls
+around_agrees content label labels met None calls a = a
+around_agrees content label labels met (Some number) calls a = front content calls (entering label labels met) a.1
 
 doings_agree : (content : ℕ → ℕ → List ℕ) (ds : List Doing) → ContentsAgree content (doings_calls ds) → AllContentsAgree content (parts_in ds)
 doings_agree content [] a = tt
 doings_agree content (d ∷ ds) a = (
-  around_agrees content d.label d.labels (action_of d.part.deed) (part_calls d.part) (back content (doings_calls ds) (doing_calls d) a),
+  around_agrees content d.label d.labels d.met (action_of d.part.deed) (part_calls d.part) (back content (doings_calls ds) (doing_calls d) a),
   doings_agree content ds (front content (doings_calls ds) (doing_calls d) a),
 )
 

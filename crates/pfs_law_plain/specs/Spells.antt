@@ -1,25 +1,32 @@
 -- Sessions that run one after another: their stints, with all calls of the store.
 use Rattle.std.specs.Prelude.{ℕ, ◌≡◌, ◌+◌, List, [], ◌∷◌, ◌++◌, length, Option, Some, None, IfSome}
 use Rattle.pfs_board.specs.declared.view.Label.{Label}
-use Rattle.pfs_levels.specs.Calls.{Call, Enters, Leaves}
+use Rattle.pfs_levels.specs.Calls.{Call, Enters, Leaves, Meets}
 use Rattle.pfs_law_session.specs.Deeds.{Deed, Part, action_of, part_calls}
 use Rattle.pfs_law_session.specs.Stints.{Stint, state_by, AreStints}
 use Rattle.pfs_session.specs.SessionStates.{State, fresh}
 use Rattle.pfs_session.specs.Turns.{state_after}
 
--- a part; of an action also the label that it entered with, and those of the actions before it
+-- a part; of an action also the label that it entered with, those of the actions before it, and the versions of the
+-- words that it met there, where somebody else may be the words' writer
 pub record Doing : Type 0 where
   pub part : Part
   pub label : Label
   pub labels : List Label
+  pub met : Option (List ℕ)
 
--- an action begins before its calls and ends behind them
-abbrev pub around : Label → List Label → Option ℕ → List Call → List Call
-around label labels None calls = calls
-around label labels (Some number) calls = Leaves ∷ (calls ++ Enters label labels ∷ [])
+-- how an action begins
+abbrev pub entering : Label → List Label → Option (List ℕ) → List Call
+entering label labels None = Enters label labels ∷ []
+entering label labels (Some versions) = Meets versions ∷ Enters label labels ∷ []
+
+-- it does so before its calls, and ends behind them
+abbrev pub around : Label → List Label → Option (List ℕ) → Option ℕ → List Call → List Call
+around label labels met None calls = calls
+around label labels met (Some number) calls = Leaves ∷ (calls ++ entering label labels met)
 
 abbrev pub doing_calls : Doing → List Call
-doing_calls d = around d.label d.labels (action_of d.part.deed) (part_calls d.part)
+doing_calls d = around d.label d.labels d.met (action_of d.part.deed) (part_calls d.part)
 
 -- newest first; what is done stands in order
 abbrev pub doings_calls : List Doing → List Call
