@@ -1,51 +1,20 @@
 -- A quit at the end of a block's lines.
-use Rattle.std.proofs.Common.{ℕ, ◌≡◌, Bool, true, false, List, [], ◌∷◌, ◌++◌, Option, Some, None, refl, ap, sym, ◌∙◌, subst, append_assoc}
+use Rattle.std.proofs.Common.{ℕ, ◌≡◌, Bool, true, false, List, [], ◌∷◌, ◌++◌, Option, Some, None, refl, ap, sym, ◌∙◌, subst}
 use Rattle.std.proofs.lemmas.List.{append-nil, same_from_push}
 use Rattle.pfs_event.specs.declared.kind.EventKind.{EventKind}
 use Rattle.pfs_play.specs.Errands.{kinds_after}
 use Rattle.pfs_play.specs.Repeats.{AllMayPlay}
 use Rattle.pfs_script.specs.Brackets.{kinds_behind}
-use Rattle.pfs_script.specs.Marks.{Repeated, mark_of, copies, written_from, written_out}
+use Rattle.pfs_script.specs.Marks.{mark_of, written_out}
 use Rattle.pfs_script.specs.declared.blocks.BlockLine.{BlockLine}
 use Rattle.pfs_script.specs.declared.blocks.BlockLine.TheVariants as said
+use Rattle.pfs_law_script.proofs.QuietLines.{written_end}
 use Rattle.pfs_law_script.specs.PlayableBlocks.{end_of}
 use Rattle.pfs_blocks.specs.PlayedBlocks.{MayEnd}
 
--- a quit behind lines stands behind them written out: an open repeat runs once
-quit_behind : (from : Option Repeated) (lines : List BlockLine) → written_from from (lines ++ said.Quit ∷ []) ≡ written_from from lines ++ said.Quit ∷ []
-unfolding written_from
-quit_behind None [] = refl
-quit_behind (Some loop) [] = refl
-quit_behind None (said.Repeat times ∷ rest) = quit_behind (Some (record { times = times; body = [] })) rest
-quit_behind None (said.Wait class ∷ rest) = ap (λ (z : List BlockLine). said.Wait class ∷ z) (quit_behind None rest)
-quit_behind None (said.TableWait class table ∷ rest) = ap (λ (z : List BlockLine). said.TableWait class table ∷ z) (quit_behind None rest)
-quit_behind None (said.Statement class digest ∷ rest) = ap (λ (z : List BlockLine). said.Statement class digest ∷ z) (quit_behind None rest)
-quit_behind None (said.Transaction access ∷ rest) = ap (λ (z : List BlockLine). said.Transaction access ∷ z) (quit_behind None rest)
-quit_behind None (said.Stage class ∷ rest) = ap (λ (z : List BlockLine). said.Stage class ∷ z) (quit_behind None rest)
-quit_behind None (said.StageEnd ∷ rest) = ap (λ (z : List BlockLine). said.StageEnd ∷ z) (quit_behind None rest)
-quit_behind None (said.Spend time ∷ rest) = ap (λ (z : List BlockLine). said.Spend time ∷ z) (quit_behind None rest)
-quit_behind None (said.Sql text ∷ rest) = ap (λ (z : List BlockLine). said.Sql text ∷ z) (quit_behind None rest)
-quit_behind None (said.Quit ∷ rest) = ap (λ (z : List BlockLine). said.Quit ∷ z) (quit_behind None rest)
-quit_behind None (said.End ∷ rest) = ap (λ (z : List BlockLine). said.End ∷ z) (quit_behind None rest)
-quit_behind None (said.EndStatement numbers ∷ rest) = ap (λ (z : List BlockLine). said.EndStatement numbers ∷ z) (quit_behind None rest)
-quit_behind None (said.Done ∷ rest) = ap (λ (z : List BlockLine). said.Done ∷ z) (quit_behind None rest)
-quit_behind (Some loop) (said.Done ∷ rest) =
-    ap (λ (z : List BlockLine). copies loop.times loop.body ++ z) (quit_behind None rest) ∙ sym (append_assoc (copies loop.times loop.body) (written_from None rest) (said.Quit ∷ []))
-quit_behind (Some loop) (said.Wait class ∷ rest) = quit_behind (Some (record { times = loop.times; body = loop.body ++ said.Wait class ∷ [] })) rest
-quit_behind (Some loop) (said.TableWait class table ∷ rest) = quit_behind (Some (record { times = loop.times; body = loop.body ++ said.TableWait class table ∷ [] })) rest
-quit_behind (Some loop) (said.Statement class digest ∷ rest) = quit_behind (Some (record { times = loop.times; body = loop.body ++ said.Statement class digest ∷ [] })) rest
-quit_behind (Some loop) (said.Transaction access ∷ rest) = quit_behind (Some (record { times = loop.times; body = loop.body ++ said.Transaction access ∷ [] })) rest
-quit_behind (Some loop) (said.Stage class ∷ rest) = quit_behind (Some (record { times = loop.times; body = loop.body ++ said.Stage class ∷ [] })) rest
-quit_behind (Some loop) (said.StageEnd ∷ rest) = quit_behind (Some (record { times = loop.times; body = loop.body ++ said.StageEnd ∷ [] })) rest
-quit_behind (Some loop) (said.Spend time ∷ rest) = quit_behind (Some (record { times = loop.times; body = loop.body ++ said.Spend time ∷ [] })) rest
-quit_behind (Some loop) (said.Sql text ∷ rest) = quit_behind (Some (record { times = loop.times; body = loop.body ++ said.Sql text ∷ [] })) rest
-quit_behind (Some loop) (said.Quit ∷ rest) = quit_behind (Some (record { times = loop.times; body = loop.body ++ said.Quit ∷ [] })) rest
-quit_behind (Some loop) (said.End ∷ rest) = quit_behind (Some (record { times = loop.times; body = loop.body ++ said.End ∷ [] })) rest
-quit_behind (Some loop) (said.EndStatement numbers ∷ rest) = quit_behind (Some (record { times = loop.times; body = loop.body ++ said.EndStatement numbers ∷ [] })) rest
-quit_behind (Some loop) (said.Repeat times ∷ rest) = quit_behind (Some (record { times = loop.times; body = loop.body ++ said.Repeat times ∷ [] })) rest
-
+-- a quit behind lines stands behind them written out
 pub written_quit : (lines : List BlockLine) → written_out (lines ++ said.Quit ∷ []) ≡ written_out lines ++ said.Quit ∷ []
-written_quit lines = quit_behind None lines
+written_quit lines = written_end lines true
 
 -- lines that may be played end in no quit
 no_quit : (depth : ℕ) (kinds : List EventKind) (start : Option (List EventKind)) (lines : List BlockLine) → AllMayPlay 62 depth kinds start (lines ++ said.Quit ∷ []) → ⊥

@@ -1,6 +1,9 @@
 mod BlockEnds
-mod DeedLists
+mod FoundSlots
+mod LineNames
+mod MetAsks
 pub mod BlockQuits
 mod PlayedLines
 pub mod RepeatKinds
+pub mod SomeSetting
 mod BlockNeeds

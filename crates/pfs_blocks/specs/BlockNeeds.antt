@@ -1,7 +1,6 @@
--- What a block needs of its session, of the administration and of the store, and what it uses up of these at most.
+-- What a block needs of its session and of its actor, and what it uses up of these at most.
 use Rattle.std.specs.Prelude.{ℕ, ◌≡◌, ◌≤◌, ◌+◌, ◌*◌, List, length}
-use Rattle.pfs_admin.specs.AdministrationStates.{State as Administration}
-use Rattle.pfs_levels.specs.Views.{Store, Used, lent_as}
+use Rattle.pfs_levels.specs.Views.{Store, Used}
 use Rattle.pfs_play.specs.Errands.{actions_on, cost_on}
 use Rattle.pfs_play.specs.Needs.{Need}
 use Rattle.pfs_script.specs.declared.blocks.Block.{Block}
@@ -29,12 +28,10 @@ need_of_block block = record {
   entries = cost_on (written_out block.lines) + 648;
 }
 
--- a session went on by no more than that: it keeps its number and the depth that it was opened with, and the store has
--- the administration's words again
-pub record Within (need : Need) (old new : Book) (admin after : Administration) (was now : Store) : Type 0 where
+-- a session went on by no more than that: it keeps its number and the depth that it was opened with
+pub record Within (need : Need) (old new : Book) (was now : Store) : Type 0 where
   pub drawn : new.state.drawn ≤ old.state.drawn + need.numbers
   pub actions : new.state.actions ≤ old.state.actions + need.actions
-  pub counted : after.actions ≤ admin.actions + need.actions
   pub number : new.state.number ≡ old.state.number
   pub depth : new.state.opened.depth ≡ old.state.opened.depth
-  pub used : Used need.spare need.tickets need.entries (lent_as after.words was) now old.journal new.journal
+  pub used : Used need.spare need.tickets need.entries was now old.journal new.journal

@@ -7,12 +7,13 @@ use Rattle.std.proofs.lemmas.List.Concat.{flat_map-append}
 use Rattle.std.proofs.lemmas.List.Elements.{filter-append}
 use Rattle.pfs_admin.specs.declared.changes.Change.{Change}
 use Rattle.pfs_law_script.specs.PlayableBlocks.{end_of}
+use Rattle.pfs_play.specs.Errands.{LabelsName}
 use Rattle.pfs_runs.specs.ScriptLines.{connect_changes, changes_on, changes_in, change_in}
 use Rattle.pfs_script.specs.declared.blocks.Block.{Block}
 use Rattle.pfs_script.specs.declared.blocks.Phase.{Phase}
 use Rattle.pfs_script.specs.Events.{blocks_for}
 use Rattle.pfs_law_script.specs.Course.{PhasedBlock, phased, numbered, own_blocks, own_changes}
-use Rattle.pfs_law_script.proofs.DeedStates.{AreAsked, asked_there, asked_by}
+use Rattle.pfs_law_script.proofs.AskedLabels.{asked_there}
 use Rattle.pfs_law_script.proofs.QuietLines.{HasQuietLines}
 
 pub own_then : (session : ℕ) (xs ys : List PhasedBlock) → own_blocks session (xs ++ ys) ≡ own_blocks session xs ++ own_blocks session ys
@@ -46,7 +47,7 @@ own_numbered session number (phase ∷ phases) =
     ∙ sym (filter-append (is_own session) phase.blocks (flat_map (λ (one : Phase). one.blocks) phases))))
 
 -- the changes of a block
-pub block_changes : (block : Block) (has : HasQuietLines block.lines) → changes_in block ≡ asked_by block.connect (has.quiet ++ end_of has.quits)
+pub block_changes : (block : Block) (has : HasQuietLines block.lines) → changes_in block ≡ connect_changes block.connect ++ flat_map changes_on (has.quiet ++ end_of has.quits)
 block_changes block has = ap (λ z. connect_changes block.connect ++ flat_map changes_on z) has.written
 
 here_then : (session : ℕ) (done rest : List PhasedBlock) (one : PhasedBlock) → one.block.session ≡ session → own_blocks session (done ++ one ∷ rest) ≡ own_blocks session done ++ one.block ∷ own_blocks session rest
@@ -55,16 +56,14 @@ here_then session done rest one e =
     ∙ ap (λ b. own_blocks session done ++ (cond b (one.block ∷ []) [] ++ own_blocks session rest)) (eq-eqb one.block.session session e)
 
 -- and those of the session
-pub asked_here : (phases : List Phase) (done rest : List PhasedBlock) (one : PhasedBlock) (has : HasQuietLines one.block.lines) → numbered 1 phases ≡ done ++ one ∷ rest
-    → AreAsked (change_in phases) one.block.session (length (own_changes one.block.session done)) (asked_by one.block.connect (has.quiet ++ end_of has.quits))
-asked_here phases done rest one has e =
+pub asked_here : (phases : List Phase) (done rest : List PhasedBlock) (one : PhasedBlock) → numbered 1 phases ≡ done ++ one ∷ rest → LabelsName (change_in phases) one.block.session (length (own_changes one.block.session done)) (changes_in one.block)
+asked_here phases done rest one e =
     let session : ℕ = one.block.session in
     let all : List Change = flat_map changes_in (blocks_for session phases) in
     let before : List Change = own_changes session done in
     let after : List Change = own_changes session rest in
     let blocks : blocks_for session phases ≡ own_blocks session done ++ one.block ∷ own_blocks session rest =
     sym (own_numbered session 1 phases) ∙ (ap (own_blocks session) e ∙ here_then session done rest one refl) in
-    let split : all ≡ before ++ (asked_by one.block.connect (has.quiet ++ end_of has.quits) ++ after) =
-    ap (flat_map changes_in) blocks
-    ∙ (flat_map-append changes_in (own_blocks session done) (one.block ∷ own_blocks session rest) ∙ ap (λ z. before ++ (z ++ after)) (block_changes one.block has)) in
-    asked_there (change_in phases) session all (λ line. refl) (length before) before (asked_by one.block.connect (has.quiet ++ end_of has.quits)) after split refl
+    let split : all ≡ before ++ (changes_in one.block ++ after) =
+    ap (flat_map changes_in) blocks ∙ flat_map-append changes_in (own_blocks session done) (one.block ∷ own_blocks session rest) in
+    asked_there (change_in phases) session all (λ line. refl) (length before) before (changes_in one.block) after split refl

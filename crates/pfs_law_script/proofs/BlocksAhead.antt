@@ -5,7 +5,6 @@ use Rattle.std.specs.List.{slice_index_or}
 use Rattle.std.proofs.Math.Seq.{get_or-append_seam}
 use Rattle.std.proofs.lemmas.Bool.{eqb-true, false≢true}
 use Rattle.std.proofs.lemmas.List.{append_assoc, append-nil}
-use Rattle.pfs_admin.specs.AdministrationStates.{State as Administration}
 use Rattle.pfs_admin.specs.declared.changes.Change.{Change}
 use Rattle.pfs_board.specs.declared.view.Label.{Label}
 use Rattle.pfs_law_plain.specs.Spells.{Doing, Spell, parts_in}
@@ -21,11 +20,11 @@ use Rattle.pfs_script.specs.declared.blocks.Phase.{Phase}
 use Rattle.pfs_script.specs.Events.{blocks_for}
 use Rattle.pfs_script.specs.KnownClasses.{AreDistinct}
 use Rattle.pfs_law_script.specs.BlocksAhead.{done_before, block_at, ahead_of, NoneIsOver, ReachedLaw}
-use Rattle.pfs_law_script.specs.Course.{PhasedBlock, phased, numbered, own_blocks, over_at, deeds_in, deeds_of}
+use Rattle.pfs_play.specs.Errands.{AreFor}
+use Rattle.pfs_law_script.specs.Course.{PhasedBlock, asks_of, phased, numbered, own_blocks, over_at}
 use Rattle.pfs_law_script.specs.CourseSteps.{IsOneMore, spell_at}
 use Rattle.pfs_law_script.proofs.BlockChanges.{own_then, own_numbered}
-use Rattle.pfs_law_script.proofs.BlockFolds.{point_behind, over_there}
-use Rattle.pfs_law_script.proofs.DeedStates.{point_of, IsLed, block_leads}
+use Rattle.pfs_law_script.proofs.BlockActions.{block_through}
 use Rattle.pfs_law_script.proofs.QuietLines.{HasQuietLines, quiet_lines, quits_same}
 
 -- the blocks of phases one behind another
@@ -151,18 +150,13 @@ not_over spells one ahead none = by_over (over_at spells one.block.session) refl
   by_over false e = refl
 
 -- whether it is over behind the block is whether the block quits
-over_is : (admin : Administration) (one : PhasedBlock) (has : HasQuietLines one.block.lines) (ps : List Part)
-    → deeds_in ps ≡ deeds_of admin one.block.session one.block.connect (has.quiet ++ end_of has.quits) → over_behind false ps ≡ has.quits
-over_is admin one has ps deeds =
-    let session : ℕ = one.block.session in
-    let led : IsLed 0 admin session one.block.connect (has.quiet ++ end_of has.quits) has.quits (point_behind session (point_of 0 admin) (deeds_in ps)) =
-    subst (λ z. IsLed 0 admin session one.block.connect (has.quiet ++ end_of has.quits) has.quits (point_behind session (point_of 0 admin) z)) (sym deeds) (block_leads session 0 admin one.block.connect has.quiet has.quits has.are_quiet) in
-    over_there session (point_of 0 admin) ps ∙ led.over_is
+over_is : (one : PhasedBlock) (has : HasQuietLines one.block.lines) (ps : List Part) → AreFor (asks_of one.block.connect (has.quiet ++ end_of has.quits)) ps → over_behind false ps ≡ has.quits
+over_is one has ps asked = (block_through 0 one.block.connect has.quiet has.quits ps has.are_quiet asked).over_is
 
-still_none : (setting : Setting) (change : Label → Change) (depths : ℕ → ℕ) (done : List PhasedBlock) (spells : List Spell) (admin : Administration) (one : PhasedBlock) (doings : List Doing) (ahead : List PhasedBlock)
-    → NoneIsOver spells (one ∷ ahead) → IsOneMore setting change depths done spells admin one doings → (over_behind false (parts_in doings) ≡ true → own_blocks one.block.session ahead ≡ [])
+still_none : (setting : Setting) (change : Label → Change) (depths : ℕ → ℕ) (done : List PhasedBlock) (spells : List Spell) (one : PhasedBlock) (doings : List Doing) (ahead : List PhasedBlock)
+    → NoneIsOver spells (one ∷ ahead) → IsOneMore setting change depths done spells one doings → (over_behind false (parts_in doings) ≡ true → own_blocks one.block.session ahead ≡ [])
     → NoneIsOver (spells ++ spell_at one doings ∷ []) ahead
-still_none setting change depths done spells admin one doings ahead none more last = λ k over. at k (one.block.session == k) refl over where
+still_none setting change depths done spells one doings ahead none more last = λ k over. at k (one.block.session == k) refl over where
   at : (k : ℕ) (b : Bool) → (one.block.session == k) ≡ b → over_at (spells ++ spell_at one doings ∷ []) k ≡ true → own_blocks k ahead ≡ []
   at k true e over =
       let same : one.block.session ≡ k = eqb-true one.block.session k e in
@@ -198,9 +192,9 @@ reached = λ phases before phase after first block others e b p.
         body = here.body;
       };
       goes_on = λ spells none. not_over spells one (ahead_of before others after) none;
-      ahead = λ setting depths spells admin doings none played more.
-          still_none setting (change_in phases) depths (done_before before first) spells admin one doings (ahead_of before others after) none more (λ over.
-          (let quits : here.body.quits ≡ true = sym (quits_same before after block here.body) ∙ (sym (over_is admin one has (parts_in doings) (played.deeds ∙ ap (deeds_of admin session block.connect) has.written)) ∙ over) in
+      ahead = λ setting depths spells doings none played more.
+          still_none setting (change_in phases) depths (done_before before first) spells one doings (ahead_of before others after) none more (λ over.
+          (let quits : here.body.quits ≡ true = sym (quits_same before after block here.body) ∙ (sym (over_is one has (parts_in doings) (subst (λ z. AreFor (asks_of block.connect z) (parts_in doings)) has.written played.asked)) ∙ over) in
           own_then session (phased n others) (numbered (n + 1) after)
           ∙ (ap (λ z. z ++ own_blocks session (numbered (n + 1) after)) later ∙ (own_numbered session (n + 1) after ∙ here.body.last quits))));
     }) where

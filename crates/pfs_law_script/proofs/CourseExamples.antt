@@ -1,6 +1,5 @@
 -- The worked script of pfs_runs, two sessions in two phases, as a course has it.
 use Rattle.std.proofs.Common.{ℕ, ◌≡◌, List, [], ◌∷◌, true, false, None, refl, sym, subst}
-use Rattle.pfs_admin.specs.AdministrationStates.{connected, has_quit}
 use Rattle.pfs_admin.specs.AdministrationStates.{State as Administration}
 use Rattle.pfs_admin.specs.declared.changes.Change.TheVariants as changes
 use Rattle.pfs_law_plain.specs.Spells.{Doing, Spell, parts_in}
@@ -23,7 +22,7 @@ use Rattle.pfs_session.specs.Ends.{no_numbers}
 use Rattle.pfs_session.specs.SessionStates.{fresh}
 use Rattle.pfs_session.specs.Turns.{SettlesHeld}
 use Rattle.pfs_law_script.specs.BlocksAhead.{done_before, ahead_of}
-use Rattle.pfs_law_script.specs.Course.{numbered, own_blocks, own_changes, deeds_of, behind_block}
+use Rattle.pfs_law_script.specs.Course.{asks_of, numbered, own_blocks, own_changes}
 use Rattle.pfs_law_script.specs.ReportSpells.{AreTold, ArePhasesTold}
 
 -- the blocks in their phases, those of the first session, and its administration lines
@@ -48,23 +47,15 @@ ahead_are : ahead_of [] (connecting ∷ []) (record { blocks = quitting ∷ [] }
     ≡ record { phase = 1; block = connecting } ∷ record { phase = 2; block = quitting } ∷ []
 ahead_are = refl
 
--- the first block connects and waits, the last one quits, and each changes the administration so
-waiting_deeds : (admin : Administration) → deeds_of admin 1 waiting.connect (written_out waiting.lines)
-    ≡ Connecting admin 0 1 ∷ Spending 7 ∷ Starting wait ∷ Spending 5 ∷ Ending no_numbers ∷ Closing ∷ []
+-- the first block asks to connect and to wait, the last one to quit
+waiting_asks : asks_of waiting.connect (written_out waiting.lines)
+    ≡ (λ (admin : Administration). Connecting admin 0 1) ∷ (λ admin. Spending 7) ∷ (λ admin. Starting wait) ∷ (λ admin. Spending 5) ∷ (λ admin. Ending no_numbers) ∷ (λ admin. Closing) ∷ []
 unfolding written_from
-waiting_deeds admin = refl
+waiting_asks = refl
 
-quitting_deeds : (admin : Administration) → deeds_of admin 1 quitting.connect (written_out quitting.lines) ≡ Quitting admin ∷ Closing ∷ []
+quitting_asks : asks_of quitting.connect (written_out quitting.lines) ≡ (λ (admin : Administration). Quitting admin) ∷ (λ admin. Closing) ∷ []
 unfolding written_from
-quitting_deeds admin = refl
-
-waiting_behind : (admin : Administration) → behind_block admin waiting false ≡ connected admin 1 0 1
-unfolding written_from
-waiting_behind admin = refl
-
-quitting_behind : (admin : Administration) → behind_block admin quitting true ≡ has_quit admin 1
-unfolding written_from
-quitting_behind admin = refl
+quitting_asks = refl
 
 -- what is told of three spells, two of the first session and one of the other, whose blocks have no SELECT: one wrote an
 -- entry, the others nothing
@@ -73,6 +64,7 @@ doing entries = record {
   part = record { deed = Closing; turns = record { step = SettlesHeld; calls = []; entries = entries; after = fresh 1 1 1 } ∷ [] };
   label = record { session = 1; line = 1 };
   labels = [];
+  met = None;
 }
 
 abbrev quiet : Doing

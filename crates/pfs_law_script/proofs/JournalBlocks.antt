@@ -16,7 +16,7 @@ use Rattle.pfs_law_session.specs.JournalLaws.{lines_of, entries_of}
 use Rattle.pfs_law_session.specs.Stints.{Stint, block_of, blocks_of}
 use Rattle.pfs_law_plain.proofs.PhaseFronts.{stints_then}
 use Rattle.pfs_law_plain.specs.RunRules.{journals_of}
-use Rattle.pfs_play.specs.Errands.{admin_behind, errand_on}
+use Rattle.pfs_play.specs.Errands.{AreFor, asks_on}
 use Rattle.pfs_exec.specs.Requests.{request_of}
 use Rattle.pfs_exec.specs.declared.requests.Request.{Request}
 use Rattle.pfs_exec.specs.declared.requests.Request.TheVariants as requests
@@ -29,7 +29,7 @@ use Rattle.pfs_script.specs.declared.blocks.BlockLine.TheVariants as said
 use Rattle.pfs_script.specs.declared.blocks.Connect.{Connect}
 use Rattle.pfs_script.specs.declared.blocks.Phase.{Phase}
 use Rattle.pfs_script.specs.Marks.{written_out}
-use Rattle.pfs_law_script.specs.Course.{PhasedBlock, phased, numbered, connected_by, deeds_along, deeds_of, deeds_in, IsSpellOf, AreSpellsOf}
+use Rattle.pfs_law_script.specs.Course.{PhasedBlock, asks_of, phased, numbered, IsSpellOf, AreSpellsOf}
 use Rattle.pfs_law_script.specs.ReportSpells.{AreTold, ArePhasesTold}
 
 blocks_then : (xs ys : List Stint) → blocks_of (xs ++ ys) ≡ blocks_of xs ++ blocks_of ys
@@ -55,10 +55,6 @@ line_bare (Querying found count) = refl
 line_bare (Refusing error) = refl
 line_bare Closing = refl
 
-parts_lines : (ps : List Part) → lines_of ps ≡ map line_of (deeds_in ps)
-parts_lines [] = refl
-parts_lines (p ∷ ps) = ap (λ z. z ∷ lines_of ps) (line_bare p.deed) ∙ ap (λ z. line_of (bare p.deed) ∷ z) (parts_lines ps)
-
 sql_told : (admin : Administration) (asks : Request) → line_of (sql_deed admin asks) ≡ sql_line asks
 sql_told admin (requests.Refused error) = refl
 sql_told admin (requests.Truncate what) = refl
@@ -73,20 +69,21 @@ deed_line admin said.Quit = refl
 deed_line admin (said.Sql text) = sql_told admin (request_of text)
 deed_line admin _ = refl
 
-body_lines : (admin : Administration) (lines : List BlockLine) → map line_of (deeds_along admin lines ++ Closing ∷ []) ≡ map line_in lines ++ told.Close ∷ []
-body_lines admin [] = refl
-body_lines admin (line ∷ lines) =
-    let next : Administration = admin_behind admin (errand_on line) in
-    ap (λ z. z ∷ map line_of (deeds_along next lines ++ Closing ∷ [])) (deed_line admin line) ∙ ap (λ z. line_in line ∷ z) (body_lines next lines)
+body_lines : (lines : List BlockLine) (ps : List Part) → AreFor (asks_on lines ++ (λ admin. Closing) ∷ []) ps → lines_of ps ≡ map line_in lines ++ told.Close ∷ []
+body_lines [] [] are = absurd are
+body_lines [] (p ∷ []) are = ap (λ z. z ∷ []) (line_bare p.deed ∙ ap line_of are.0.is)
+body_lines [] (p ∷ (other ∷ ps)) are = absurd are.1
+body_lines (line ∷ lines) [] are = absurd are
+body_lines (line ∷ lines) (p ∷ ps) are =
+    ap (λ z. z ∷ lines_of ps) (line_bare p.deed ∙ (ap line_of are.0.is ∙ deed_line are.0.admin line)) ∙ ap (λ z. line_in line ∷ z) (body_lines lines ps are.1)
 
-deeds_lines : (admin : Administration) (session : ℕ) (connect : Option Connect) (lines : List BlockLine)
-    → map line_of (deeds_of admin session connect lines) ≡ connect_lines connect ++ (map line_in lines ++ told.Close ∷ [])
-deeds_lines admin session None lines = body_lines admin lines
-deeds_lines admin session (Some names) lines = ap (λ z. told.Connect ∷ z) (body_lines (connected_by admin session (Some names)) lines)
+asked_lines : (connect : Option Connect) (lines : List BlockLine) (ps : List Part) → AreFor (asks_of connect lines) ps → lines_of ps ≡ connect_lines connect ++ (map line_in lines ++ told.Close ∷ [])
+asked_lines None lines ps are = body_lines lines ps are
+asked_lines (Some names) lines [] are = absurd are
+asked_lines (Some names) lines (p ∷ ps) are = ap (λ z. z ∷ lines_of ps) (line_bare p.deed ∙ ap line_of are.0.is) ∙ ap (λ z. told.Connect ∷ z) (body_lines lines ps are.1)
 
 spell_lines : (one : PhasedBlock) (spell : Spell) → IsSpellOf one spell → lines_of (parts_in spell.doings) ≡ lines_in one.block
-spell_lines one spell is =
-    parts_lines (parts_in spell.doings) ∙ (ap (map line_of) is.deeds ∙ deeds_lines is.admin one.block.session one.block.connect (written_out one.block.lines))
+spell_lines one spell is = asked_lines one.block.connect (written_out one.block.lines) (parts_in spell.doings) is.asked
 
 -- the blocks of a phase
 blocks_are : (setting : Setting) (number : ℕ) (blocks : List Said) (spells : List Spell) (reports : List BlockReport) → AreTold setting number blocks spells reports → AreSpellsOf (phased number blocks) spells

@@ -1,7 +1,7 @@
-mod QuietLines
+pub mod QuietLines
 mod ActionCounts
-mod BlockFolds
-pub mod DeedStates
+mod BlockActions
+pub mod AskedLabels
 pub mod BlockChanges
 pub mod CourseSteps
 pub mod ReportSpells

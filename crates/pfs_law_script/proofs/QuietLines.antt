@@ -21,7 +21,7 @@ quiet_then : (xs ys : List BlockLine) → AreQuiet xs → AreQuiet ys → AreQui
 quiet_then [] ys a b = b
 quiet_then (x ∷ xs) ys a b = (a.0, quiet_then xs ys a.1 b)
 
-may_quiet : (classes depth : ℕ) (kinds : List EventKind) (start : Option (List EventKind)) (lines : List BlockLine) → AllMayPlay classes depth kinds start lines → AreQuiet lines
+pub may_quiet : (classes depth : ℕ) (kinds : List EventKind) (start : Option (List EventKind)) (lines : List BlockLine) → AllMayPlay classes depth kinds start lines → AreQuiet lines
 unfolding AllMayPlay
 may_quiet classes depth kinds None [] may = tt
 may_quiet classes depth kinds (Some start) [] may = tt
@@ -39,7 +39,7 @@ abbrev IsQuietLoop : Option Repeated → Type 0
 IsQuietLoop None = Unit {0}
 IsQuietLoop (Some loop) = AreQuiet loop.body
 
-written_quiet : (start : Option Repeated) (lines : List BlockLine) → IsQuietLoop start → AreQuiet lines → AreQuiet (written_from start lines)
+pub written_quiet : (start : Option Repeated) (lines : List BlockLine) → IsQuietLoop start → AreQuiet lines → AreQuiet (written_from start lines)
 unfolding written_from
 written_quiet None [] l q = tt
 written_quiet (Some loop) [] l q = l

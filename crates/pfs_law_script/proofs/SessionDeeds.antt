@@ -6,7 +6,7 @@ use Rattle.pfs_law_plain.specs.Spells.{Spell, parts_in, stints_of}
 use Rattle.pfs_law_plain.specs.LineDeeds.{bare, deed_on, sql_deed, IsNext, AreDeeds}
 use Rattle.pfs_law_session.specs.Deeds.{Deed, Connecting, Starting, Staging, StageEnding, Ending, Spending, Quitting, Truncating, Changing, Showing, Querying, Refusing, Closing, Part}
 use Rattle.pfs_law_session.specs.Stints.{parts_by}
-use Rattle.pfs_play.specs.Errands.{admin_behind, errand_on}
+use Rattle.pfs_play.specs.Errands.{AreFor, asks_on}
 use Rattle.pfs_exec.specs.Requests.{request_of}
 use Rattle.pfs_exec.specs.declared.requests.Request.{Request}
 use Rattle.pfs_exec.specs.declared.requests.Request.TheVariants as requests
@@ -17,14 +17,10 @@ use Rattle.pfs_script.specs.declared.blocks.Connect.{Connect}
 use Rattle.pfs_script.specs.declared.blocks.Phase.{Phase}
 use Rattle.pfs_script.specs.Events.{lines_for}
 use Rattle.pfs_script.specs.Marks.{written_out}
-use Rattle.pfs_law_script.specs.Course.{PhasedBlock, numbered, own_blocks, connected_by, deeds_along, deeds_of, deeds_in, IsSpellOf, AreSpellsOf}
+use Rattle.pfs_law_script.specs.Course.{PhasedBlock, asks_of, numbered, own_blocks, IsSpellOf, AreSpellsOf}
 use Rattle.pfs_law_script.proofs.BlockChanges.{own_numbered}
 
--- deeds do lines as parts do, and as they are without what a SELECT read and showed
-abbrev Do : List BlockLine → List Deed → Type 0
-Do lines [] = lines ≡ []
-Do lines (deed ∷ deeds) = IsNext lines deed (λ rest. Do rest deeds)
-
+-- a deed does lines as it does without what a SELECT read and showed
 next_as : (lines : List BlockLine) (deed : Deed) (some other : List BlockLine → Type 0) → ((rest : List BlockLine) → some rest → other rest) → IsNext lines (bare deed) some → IsNext lines deed other
 next_as lines (Connecting admin user host) some other f n = f lines n
 next_as lines Closing some other f n = f lines n
@@ -78,10 +74,6 @@ next_then (line ∷ lines) more (Showing admin count) some other f n = (n.0, f l
 next_then (line ∷ lines) more (Querying found count) some other f n = (n.0, f lines n.1)
 next_then (line ∷ lines) more (Refusing error) some other f n = (n.0, f lines n.1)
 
-parts_do : (lines : List BlockLine) (ps : List Part) → Do lines (deeds_in ps) → AreDeeds lines ps
-parts_do lines [] d = d
-parts_do lines (p ∷ ps) d = next_as lines p.deed (λ rest. Do rest (deeds_in ps)) (λ rest. AreDeeds rest ps) (λ rest. parts_do rest ps) d
-
 deeds_then : (lines more : List BlockLine) (ps qs : List Part) → AreDeeds lines ps → AreDeeds more qs → AreDeeds (lines ++ more) (ps ++ qs)
 deeds_then lines more [] qs a b = subst (λ z. AreDeeds (z ++ more) qs) (sym a) b
 deeds_then lines more (p ∷ ps) qs a b = next_then lines more p.deed (λ rest. AreDeeds rest ps) (λ rest. AreDeeds rest (ps ++ qs)) (λ rest d. deeds_then rest more ps qs d b) a
@@ -101,20 +93,26 @@ line_next admin said.Quit lines rest r = (record { admin = admin; is = refl }, r
 line_next admin (said.Sql text) lines rest r = sql_next admin text lines rest (request_of text) refl r
 line_next admin _ lines rest r = (record { admin = admin; is = refl }, r)
 
-body_do : (admin : Administration) (lines : List BlockLine) → Do lines (deeds_along admin lines ++ Closing ∷ [])
-body_do admin [] = refl
-body_do admin (line ∷ lines) =
-    let next : Administration = admin_behind admin (errand_on line) in
-    line_next admin line lines (λ rest. Do rest (deeds_along next lines ++ Closing ∷ [])) (body_do next lines)
+body_do : (lines : List BlockLine) (ps : List Part) → AreFor (asks_on lines ++ (λ admin. Closing) ∷ []) ps → AreDeeds lines ps
+body_do [] [] are = absurd are
+body_do [] (p ∷ (other ∷ ps)) are = absurd are.1
+body_do [] (p ∷ []) are =
+    let rest : List BlockLine → Type 0 = λ lines. AreDeeds lines [] in
+    next_as [] p.deed rest rest (λ lines d. d) (subst (λ (deed : Deed). IsNext [] deed rest) (sym are.0.is) refl)
+body_do (line ∷ lines) [] are = absurd are
+body_do (line ∷ lines) (p ∷ ps) are =
+    let rest : List BlockLine → Type 0 = λ lines. AreDeeds lines ps in
+    next_as (line ∷ lines) p.deed rest rest (λ lines d. d) (subst (λ (deed : Deed). IsNext (line ∷ lines) deed rest) (sym are.0.is) (line_next are.0.admin line lines rest (body_do lines ps are.1)))
 
-block_do : (admin : Administration) (session : ℕ) (connect : Option Connect) (lines : List BlockLine) → Do lines (deeds_of admin session connect lines)
-block_do admin session None lines = body_do admin lines
-block_do admin session (Some names) lines = body_do (connected_by admin session (Some names)) lines
+block_do : (connect : Option Connect) (lines : List BlockLine) (ps : List Part) → AreFor (asks_of connect lines) ps → AreDeeds lines ps
+block_do None lines ps are = body_do lines ps are
+block_do (Some names) lines [] are = absurd are
+block_do (Some names) lines (p ∷ ps) are =
+    let rest : List BlockLine → Type 0 = λ lines. AreDeeds lines ps in
+    next_as lines p.deed rest rest (λ lines d. d) (subst (λ (deed : Deed). IsNext lines deed rest) (sym are.0.is) (body_do lines ps are.1))
 
 spell_does : (one : PhasedBlock) (spell : Spell) → IsSpellOf one spell → AreDeeds (written_out one.block.lines) (parts_in spell.doings)
-spell_does one spell is =
-    let lines : List BlockLine = written_out one.block.lines in
-    parts_do lines (parts_in spell.doings) (subst (Do lines) (sym is.deeds) (block_do is.admin one.block.session one.block.connect lines))
+spell_does one spell is = block_do one.block.connect (written_out one.block.lines) (parts_in spell.doings) is.asked
 
 -- and those of all blocks of a session
 abbrev lines_of : List Block → List BlockLine

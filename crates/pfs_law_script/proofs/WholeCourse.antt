@@ -52,21 +52,21 @@ placed_each slots (stint ∷ stints) placed = (
 )
 
 pub whole : AnsweredLaw → RuledLaw → SessionLaw → WholeLaw
-whole answered ruled session_law = λ setting phases report depths spells admin c told format.
+whole answered ruled session_law = λ setting phases report depths spells c answer told format.
     (let flags : List ℕ = opening_flags setting opening_objects in
     let stack : ℕ = setting.limits.statement_stack in
     let change : Label → Change = change_in phases in
     let stints : List Stint = stints_of spells in
     let facts : (session : ℕ) → AllFacts (facts_in phases session) at_first (parts_by session stints) = λ session.
     session_law stack depths session stints (lines_for session phases) (events_for session phases) c.are_spells.stints (session_events session phases) (session_does session 1 phases spells c.blocks) in
-    let is : IsRuled setting change (facts_in phases) spells = ruled setting change (facts_in phases) depths spells c.are_spells c.answer c.folded c.first facts in
-    let t : AreTogether flags spells = together flags stack depths spells c.are_spells c.answer in
+    let is : IsRuled setting change (facts_in phases) spells = ruled setting change (facts_in phases) depths spells c.are_spells answer c.folded c.first facts in
+    let t : AreTogether flags spells = together flags stack depths spells c.are_spells answer in
     let slots : ℕ → Option ℕ = λ session. (told_by session empty (blocks_of stints)).slot in
     let placed : (session : ℕ) → AllPlaced (slots session) session (parts_by session stints) = λ session.
     all_placed session empty none_made spells refl (done stack depths stints c.are_spells.stints) (all_lined stack depths spells c.are_spells.stints c.are_spells.entered) c.first in
     let once : AreBrought (flags_by (terms_of setting change (facts_in phases) (labels_of spells)) (entries_of spells)) (entries_of spells) =
     brought (printed flags (entries_of spells)) slots stack depths stints setting.in_range.statement_stack c.are_spells.stints t.loads (placed_each slots stints placed) in
-    let each : Each (IsShownIn setting change (facts_in phases) spells) spells = answered setting change (facts_in phases) depths spells c.are_spells c.answer c.folded in
+    let each : Each (IsShownIn setting change (facts_in phases) spells) spells = answered setting change (facts_in phases) depths spells c.are_spells answer c.folded in
     let h : HaveJournals (IsAnsweredBy setting change (facts_in phases) spells) 1 phases report.phases spells =
     have_journals setting (IsAnsweredBy setting change (facts_in phases) spells) 1 phases report.phases spells told c.blocks each in
     let same : journals_of spells ≡ all_blocks h.blocks = sym h.all in

@@ -1,7 +1,6 @@
 -- Which blocks a script still has: what its place among the phases says of a block, and that no session that is over
 -- comes again.
 use Rattle.std.specs.Prelude.{ℕ, ◌≡◌, ◌+◌, true, false, List, [], ◌∷◌, ◌++◌, length}
-use Rattle.pfs_admin.specs.AdministrationStates.{State as Administration}
 use Rattle.pfs_law_plain.specs.Spells.{Doing, Spell}
 use Rattle.pfs_classes.specs.declared.setting.Setting.{Setting}
 use Rattle.pfs_law_script.specs.PlayableBlocks.{IsPlayable}
@@ -33,11 +32,10 @@ pub record IsReached (phases : List Phase) (before : List Phase) (first : List B
   pub next : IsNextBlock phases (done_before before first) (block_at before block)
   pub goes_on : (spells : List Spell)
       → NoneIsOver spells (block_at before block ∷ ahead_of before others after) → over_at spells block.session ≡ false
-  pub ahead : (setting : Setting) (depths : ℕ → ℕ) (spells : List Spell) (admin : Administration) (doings : List Doing)
+  pub ahead : (setting : Setting) (depths : ℕ → ℕ) (spells : List Spell) (doings : List Doing)
       → NoneIsOver spells (block_at before block ∷ ahead_of before others after)
-      → IsPlayed setting depths spells admin (block_at before block) doings
-      → IsOneMore setting (change_in phases) depths (done_before before first) spells admin (block_at before block)
-      doings
+      → IsPlayed setting (change_in phases) depths spells (block_at before block) doings
+      → IsOneMore setting (change_in phases) depths (done_before before first) spells (block_at before block) doings
       → NoneIsOver (spells ++ spell_at (block_at before block) doings ∷ []) (ahead_of before others after)
 
 abbrev pub ReachedLaw : Type 0

@@ -1,12 +1,14 @@
--- A course over all blocks of a script, with a report that tells of it, is a run of the script but for what stands
--- under the ends of its phases.
+-- A course over all blocks of a script whose calls a plain store answered, with a report that tells of it, is a run of
+-- the script but for what stands under the ends of its phases.
 use Rattle.std.specs.Prelude.{ℕ, ◌≡◌, List}
-use Rattle.pfs_admin.specs.AdministrationStates.{State as Administration}
-use Rattle.pfs_law_plain.specs.Spells.{Spell, stints_of}
+use Rattle.pfs_admin.specs.OpeningState.{opening_flags}
+use Rattle.pfs_law_plain.specs.Spells.{Spell, calls_of, stints_of}
 use Rattle.pfs_law_session.specs.Takes.{all_taken, counted_by}
 use Rattle.pfs_classes.specs.declared.setting.Setting.{Setting}
 use Rattle.pfs_journal.specs.declared.report.PhaseParts.{PhaseParts}
 use Rattle.pfs_journal.specs.declared.report.ReportParts.{ReportParts}
+use Rattle.pfs_levels.specs.PlainStore.{AllAnswer}
+use Rattle.pfs_matching.specs.ObjectRules.{opening_objects}
 use Rattle.pfs_model.specs.EntryPlaces.{Block, Placed, places, up_to_phase}
 use Rattle.pfs_model.specs.PlainAgreement.{IsPlain}
 use Rattle.pfs_law_plain.specs.RunRules.{journals_of, entries_of, labels_of, contents_of}
@@ -41,7 +43,8 @@ pub record IsRunButFinals (setting : Setting) (phases : List Phase) (report : Re
 
 abbrev pub WholeLaw : Type 0
 WholeLaw = (setting : Setting) (phases : List Phase) (report : ReportParts) (depths : ℕ → ℕ) (spells : List Spell)
-    (admin : Administration) → IsCourse setting (change_in phases) depths (numbered 1 phases) spells admin
+    → IsCourse setting (change_in phases) depths (numbered 1 phases) spells
+    → AllAnswer (opening_flags setting opening_objects) (calls_of spells)
     → ArePhasesTold setting 1 phases report.phases spells → report.format ≡ 1
     → IsRunButFinals setting phases report spells
 

@@ -6,7 +6,8 @@ use Rattle.std.proofs.lemmas.List.Concat.{flat_map-append}
 use Rattle.std.proofs.lemmas.List.Elements.{filter-append}
 use Rattle.pfs_admin.specs.declared.changes.Change.{Change}
 use Rattle.pfs_board.specs.declared.view.Label.{Label}
-use Rattle.pfs_law_script.proofs.DeedStates.{AreAsked, asked_there}
+use Rattle.pfs_play.specs.Errands.{LabelsName}
+use Rattle.pfs_law_script.proofs.AskedLabels.{asked_there}
 use Rattle.pfs_journal.specs.declared.blocks.BlockReport.{BlockReport}
 use Rattle.pfs_journal.specs.declared.report.PhaseParts.{PhaseParts}
 use Rattle.pfs_model.specs.Chains.{times}
@@ -33,9 +34,9 @@ use Rattle.pfs_law_summaries.proofs.LabelChanges.{named_actions}
 -- the lines of a block ask for its changes
 module _ (change : Label → Change) (session : ℕ) where
   sql_asked : (made : ℕ) (request : Request) (ls : List BlockLine) → ((n : ℕ)
-      → AreAsked change session n (flat_map changes_on ls)
+      → LabelsName change session n (flat_map changes_on ls)
       → AreAskedOf change session n (map line_in ls ++ told.Close ∷ []))
-      → AreAsked change session made (sql_changes request ++ flat_map changes_on ls)
+      → LabelsName change session made (sql_changes request ++ flat_map changes_on ls)
       → AreAskedOf change session made (sql_line request ∷ (map line_in ls ++ told.Close ∷ []))
   sql_asked made (requests.Truncate what) ls go a = ((λ q. subst (IsChangeOf told.Change) (sym a.0) tt), go (made + 1) a.1)
   sql_asked made (requests.Update update) ls go a = ((λ q. subst (IsChangeOf told.Change) (sym a.0) tt), go (made + 1) a.1)
@@ -44,7 +45,7 @@ module _ (change : Label → Change) (session : ℕ) where
   sql_asked made (requests.Show select) ls go a = ((λ q. subst (IsChangeOf told.Show) (sym a.0) tt), go (made + 1) a.1)
   sql_asked made _ ls go a = ((λ q. absurd (cc)), go made a)
 
-  lines_asked : (made : ℕ) (ls : List BlockLine) → AreAsked change session made (flat_map changes_on ls)
+  lines_asked : (made : ℕ) (ls : List BlockLine) → LabelsName change session made (flat_map changes_on ls)
       → AreAskedOf change session made (map line_in ls ++ told.Close ∷ [])
   lines_asked made [] a = ((λ q. absurd (cc)), tt)
   lines_asked made (said.Quit ∷ ls) a =
@@ -52,13 +53,13 @@ module _ (change : Label → Change) (session : ℕ) where
   lines_asked made (said.Sql text ∷ ls) a = sql_asked made (request_of text) ls (λ n h. lines_asked n ls h) a
   lines_asked made (_ ∷ ls) a = ((λ q. absurd (cc)), lines_asked made ls a)
 
-  block_asked : (made : ℕ) (block : Said) → AreAsked change session made (changes_in block)
+  block_asked : (made : ℕ) (block : Said) → LabelsName change session made (changes_in block)
       → AreAskedOf change session made (lines_in block)
   block_asked made block a = at block.connect a where
     ls : List BlockLine
     ls = written_out block.lines
 
-    at : (connect : Option Connect) → AreAsked change session made (connect_changes connect ++ flat_map changes_on ls)
+    at : (connect : Option Connect) → LabelsName change session made (connect_changes connect ++ flat_map changes_on ls)
         → AreAskedOf change session made (connect_lines connect ++ (map line_in ls ++ told.Close ∷ []))
     at None a = lines_asked made ls a
     at (Some names) a = ((λ q. subst (IsChangeOf told.Connect) (sym a.0) tt), lines_asked (made + 1) ls a.1)
@@ -124,7 +125,7 @@ own_one session block = at (block.session == session) where
 -- the changes of a block are the next of its session's
 said_asked : (phases : List Phase) (done : List Said) (block : Said) (rest : List Said)
     → blocks_of phases ≡ done ++ block ∷ rest
-    → AreAsked (change_in phases) block.session (length (own_changes block.session done)) (changes_in block)
+    → LabelsName (change_in phases) block.session (length (own_changes block.session done)) (changes_in block)
 said_asked phases done block rest e =
     let session : ℕ = block.session in
     asked_there (change_in phases) session (own_changes session (blocks_of phases)) (λ line. refl)

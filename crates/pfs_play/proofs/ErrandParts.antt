@@ -2,8 +2,12 @@
 use Rattle.std.proofs.Common.{ℕ, suc, ◌≡◌, ◌≤◌, ◌<◌, true, List, [], ◌∷◌, ◌++◌, length, drop, Option, Some, None, refl, ap, sym, ◌∙◌, subst, lit<, arith}
 use Rattle.std.specs.Prelude.{is_some, IfSome}
 use Rattle.std.proofs.lemmas.List.{append-nil}
-use Rattle.pfs_play.specs.StoreDeeds.{HasActed}
+use Rattle.pfs_actor.specs.ActorDeeds.{HasActed, HasShown}
 use Rattle.pfs_admin.specs.AdministrationStates.{State as Administration}
+use Rattle.pfs_admin.specs.OpeningState.{opened}
+use Rattle.pfs_admin.specs.declared.changes.Change.{Change as Named}
+use Rattle.pfs_board.specs.declared.view.Label.{Label}
+use Rattle.pfs_law_plain.specs.ActionFolds.{FoldsTo}
 use Rattle.pfs_law_plain.specs.Spells.{Doing, around, doings_calls, label_of}
 use Rattle.pfs_classes.specs.declared.classes.ClassRef.{ClassRef}
 use Rattle.pfs_classes.specs.declared.classes.ClassRef.TheVariants as refs
@@ -17,11 +21,11 @@ use Rattle.pfs_levels.specs.Calls.{Call, Opening}
 use Rattle.pfs_model.specs.JournalCuts.{joined}
 use Rattle.pfs_model.specs.declared.lines.Subject.{Subject}
 use Rattle.pfs_classes.specs.declared.setting.Setting.{Setting}
-use Rattle.pfs_law_session.specs.Deeds.{Deed, Ending, Part, Querying, Refusing, Showing, Spending, Staging, StageEnding, Starting, action_of, looks, part_calls, part_entries, remark, steps_for}
+use Rattle.pfs_law_session.specs.Deeds.{Deed, Connecting, Quitting, Truncating, Changing, Closing, Ending, Part, Querying, Refusing, Showing, Spending, Staging, StageEnding, Starting, action_of, looks, part_calls, part_entries, remark, steps_for}
 use Rattle.pfs_readsets.specs.TablePlaces.{scope_of}
 use Rattle.pfs_readsets.specs.ReadSets.{IsReadSet}
 use Rattle.pfs_rows.specs.declared.table.Reading.{Reading}
-use Rattle.pfs_runs.specs.SelectAnswers.{Answer, Selection, AnswersHeld, AnswersRead, AreAnswers}
+use Rattle.pfs_runs.specs.SelectAnswers.{Answer, Selection, AnswersRead, AreAnswers}
 use Rattle.pfs_law_plain.specs.ToldAnswers.{Answers, IsQuery, IsShow}
 use Rattle.pfs_law_plain.specs.LineDeeds.{bare}
 use Rattle.pfs_runs.specs.ScriptLines.{class_in}
@@ -64,17 +68,34 @@ joined_one entries = append-nil entries
 
 -- a line with no label of its own
 abbrev doing : Part → Doing
-doing p = record { part = p; label = record { session = 0; line = 0 }; labels = [] }
+doing p = record { part = p; label = record { session = 0; line = 0 }; labels = []; met = None }
 
 one_doing : (p : Part) → action_of p.deed ≡ None → doings_calls (doing p ∷ []) ≡ part_calls p
-one_doing p plain = ap (λ (n : Option ℕ). around (doing p).label (doing p).labels n (part_calls p)) plain
+one_doing p plain = ap (λ (n : Option ℕ). around (doing p).label (doing p).labels None n (part_calls p)) plain
+
+-- a deed that is no action folds nothing
+folds_none : (fixed : Setting) (change : Label → Named) (label : Label) (labels : List Label) (deed : Deed) → action_of deed ≡ None → FoldsTo fixed change label labels deed
+folds_none fixed change label labels (Connecting admin user host) none = cc
+folds_none fixed change label labels (Quitting admin) none = cc
+folds_none fixed change label labels (Truncating admin what) none = cc
+folds_none fixed change label labels (Changing admin what) none = cc
+folds_none fixed change label labels (Showing admin count) none = cc
+folds_none fixed change label labels (Querying readings count) none = tt
+folds_none fixed change label labels (Refusing error) none = tt
+folds_none fixed change label labels (Starting subject) none = tt
+folds_none fixed change label labels (Staging subject) none = tt
+folds_none fixed change label labels StageEnding none = tt
+folds_none fixed change label labels (Ending numbers) none = tt
+folds_none fixed change label labels (Spending time) none = tt
+folds_none fixed change label labels Closing none = tt
 
 -- steps that are those of a deed which is no action
-pub ran : (deed : Deed) (steps : List Step) (old new : Book) (was now : Opening → List Call → Type 0) → action_of deed ≡ None → steps ≡ steps_for old.state deed
-    → Played steps old new was now → HasActed deed old new was now
-ran deed steps old new was now plain same p =
+pub ran : (fixed : Setting) (change : Label → Named) (deed : Deed) (steps : List Step) (old new : Book) (was now : Opening → List Call → Type 0) → action_of deed ≡ None → steps ≡ steps_for old.state deed → Played steps old new was now
+    → HasActed fixed change (λ admin. deed) old new was now
+ran fixed change deed steps old new was now plain same p =
     let its : Part = record { deed = deed; turns = p.turns } in
     record {
+      admin = opened fixed;
       part = its;
       deed_is = refl;
       done = record {
@@ -85,39 +106,40 @@ ran deed steps old new was now plain same p =
           doings = doing its ∷ [];
           parts_are = refl;
           labelled = (subst (λ (n : Option ℕ). IfSome n (λ k. (doing its).label ≡ label_of old.state)) (sym plain) tt, tt);
+          folded = (folds_none fixed change (doing its).label (doing its).labels deed plain, tt);
           reached = subst (λ (z : List Call). now start (z ++ calls)) (sym (one_doing its plain)) (p.did.goes start calls h);
         };
       };
     }
 
-pub stage_ran : (admin : Administration) (subject : Option Subject) (old new : Book) (was now : Opening → List Call → Type 0) → Played (stage_steps old.state.opened.events subject) old new was now
-    → HasActed (deed_of admin (ask.Stage subject)) old new was now
-stage_ran admin (Some subject) old new was now p = ran (Staging subject) _ old new was now refl refl p
-stage_ran admin None old new was now p = ran StageEnding _ old new was now refl refl p
+pub stage_ran : (fixed : Setting) (change : Label → Named) (subject : Option Subject) (old new : Book) (was now : Opening → List Call → Type 0) → Played (stage_steps old.state.opened.events subject) old new was now
+    → HasActed fixed change (λ admin. deed_of admin (ask.Stage subject)) old new was now
+stage_ran fixed change (Some subject) old new was now p = ran fixed change (Staging subject) _ old new was now refl refl p
+stage_ran fixed change None old new was now p = ran fixed change StageEnding _ old new was now refl refl p
 
-pub end_ran : (numbers : Numbers) (old at new : Book) (was mid now : Opening → List Call → Type 0) → Played (stage_steps old.state.opened.events None) old at was mid → Played (EndsEvent numbers ∷ []) at new mid now
-    → HasActed (Ending numbers) old new was now
-end_ran numbers old at new was mid now p q =
-    ran (Ending numbers) _ old new was now refl (ap (λ (z : List Step). z ++ EndsEvent numbers ∷ []) (append-nil (stage_ends old.state.opened.events)))
+pub end_ran : (fixed : Setting) (change : Label → Named) (numbers : Numbers) (old at new : Book) (was mid now : Opening → List Call → Type 0) → Played (stage_steps old.state.opened.events None) old at was mid → Played (EndsEvent numbers ∷ []) at new mid now
+    → HasActed fixed change (λ admin. Ending numbers) old new was now
+end_ran fixed change numbers old at new was mid now p q =
+    ran fixed change (Ending numbers) _ old new was now refl (ap (λ (z : List Step). z ++ EndsEvent numbers ∷ []) (append-nil (stage_ends old.state.opened.events)))
     (played_then (stage_steps old.state.opened.events None) (EndsEvent numbers ∷ []) old at new was mid now p q)
 
-pub spend_ran : (time : ℕ) (old new : Book) (was : Opening → List Call → Type 0) → Does old.state (Spends time) [] [] new.state → new.journal ≡ old.journal → HasActed (Spending time) old new was was
-spend_ran time old new was does same =
-    ran (Spending time) _ old new was was refl refl
+pub spend_ran : (fixed : Setting) (change : Label → Named) (time : ℕ) (old new : Book) (was : Opening → List Call → Type 0) → Does old.state (Spends time) [] [] new.state → new.journal ≡ old.journal → HasActed fixed change (λ admin. Spending time) old new was was
+spend_ran fixed change time old new was does same =
+    ran fixed change (Spending time) _ old new was was refl refl
     (played_one (Spends time) [] [] new.state old new was was does refl (record { entries_are = ap (λ j. j.entries) same ∙ sym (append-nil old.journal.entries); goes = λ start calls h. h }))
 
-pub refuse_ran : (error : ℕ) (old new : Book) (was : Opening → List Call → Type 0) → Does old.state (Inquires (Remarks (Refused error))) [] (remark_entry (Refused error) ∷ []) new.state
-    → new.journal.entries ≡ old.journal.entries ++ remark_entry (Refused error) ∷ [] → HasActed (Refusing error) old new was was
-refuse_ran error old new was does entries =
-    ran (Refusing error) _ old new was was refl refl
+pub refuse_ran : (fixed : Setting) (change : Label → Named) (error : ℕ) (old new : Book) (was : Opening → List Call → Type 0) → Does old.state (Inquires (Remarks (Refused error))) [] (remark_entry (Refused error) ∷ []) new.state
+    → new.journal.entries ≡ old.journal.entries ++ remark_entry (Refused error) ∷ [] → HasActed fixed change (λ admin. Refusing error) old new was was
+refuse_ran fixed change error old new was does entries =
+    ran fixed change (Refusing error) _ old new was was refl refl
     (played_one (Inquires (Remarks (Refused error))) [] (remark_entry (Refused error) ∷ []) new.state old new was was does refl (record { entries_are = entries; goes = λ start calls h. h }))
 
 -- what isn't a SELECT has no answer
-pub acted_ran : (setting : Setting) (admin : Administration) (errand : Errand) (old new : Book) (answers : List Answer) (was now : Opening → List Call → Type 0) → selection_of errand ≡ None
-    → bare (deed_of admin errand) ≡ deed_of admin errand → HasActed (deed_of admin errand) old new was now → HasRun setting admin errand old new answers answers was now
-acted_ran setting admin errand old new answers was now none plain acted = record {
+pub acted_ran : (setting fixed : Setting) (change : Label → Named) (errand : Errand) (old new : Book) (answers : List Answer) (was now : Opening → List Call → Type 0) → selection_of errand ≡ None
+    → ((admin : Administration) → bare (deed_of admin errand) ≡ deed_of admin errand) → HasActed fixed change (λ admin. deed_of admin errand) old new was now → HasRun setting fixed change errand old new answers answers was now
+acted_ran setting fixed change errand old new answers was now none plain acted = record {
   part = acted.part;
-  asked = ap bare acted.deed_is ∙ plain;
+  asked = record { admin = acted.admin; is = ap bare acted.deed_is ∙ plain acted.admin };
   given = [];
   given_are = sym (append-nil answers);
   answered = subst (λ (one : Option Selection). AreAnswers (Answers setting) (one ∷ []) (acted.part ∷ []) []) (sym none) refl;
@@ -129,54 +151,54 @@ stage_plain admin None = refl
 stage_plain admin (Some subject) = refl
 
 -- a line that starts an event, changes the stage, ends an event or lets time pass is run
-pub started_ran : (setting : Setting) (admin : Administration) (line : BlockLine) (subject : Subject) (old new : Book) (answers : List Answer) (was now : Opening → List Call → Type 0) → errand_on line ≡ ask.Start subject
-    → Played (StartsEvent subject ∷ []) old new was now → HasRun setting admin (errand_on line) old new answers answers was now
-started_ran setting admin line subject old new answers was now is played =
-    subst (λ (errand : Errand). HasRun setting admin errand old new answers answers was now) (sym is)
-    (acted_ran setting admin (ask.Start subject) old new answers was now refl refl (ran (Starting subject) _ old new was now refl refl played))
+pub started_ran : (setting fixed : Setting) (change : Label → Named) (line : BlockLine) (subject : Subject) (old new : Book) (answers : List Answer) (was now : Opening → List Call → Type 0) → errand_on line ≡ ask.Start subject
+    → Played (StartsEvent subject ∷ []) old new was now → HasRun setting fixed change (errand_on line) old new answers answers was now
+started_ran setting fixed change line subject old new answers was now is played =
+    subst (λ (errand : Errand). HasRun setting fixed change errand old new answers answers was now) (sym is)
+    (acted_ran setting fixed change (ask.Start subject) old new answers was now refl (λ admin. refl) (ran fixed change (Starting subject) _ old new was now refl refl played))
 
-pub staged_ran : (setting : Setting) (admin : Administration) (line : BlockLine) (subject : Option Subject) (old new : Book) (answers : List Answer) (was now : Opening → List Call → Type 0) → errand_on line ≡ ask.Stage subject
-    → Played (stage_steps old.state.opened.events subject) old new was now → HasRun setting admin (errand_on line) old new answers answers was now
-staged_ran setting admin line subject old new answers was now is played =
-    subst (λ (errand : Errand). HasRun setting admin errand old new answers answers was now) (sym is)
-    (acted_ran setting admin (ask.Stage subject) old new answers was now refl (stage_plain admin subject) (stage_ran admin subject old new was now played))
+pub staged_ran : (setting fixed : Setting) (change : Label → Named) (line : BlockLine) (subject : Option Subject) (old new : Book) (answers : List Answer) (was now : Opening → List Call → Type 0) → errand_on line ≡ ask.Stage subject
+    → Played (stage_steps old.state.opened.events subject) old new was now → HasRun setting fixed change (errand_on line) old new answers answers was now
+staged_ran setting fixed change line subject old new answers was now is played =
+    subst (λ (errand : Errand). HasRun setting fixed change errand old new answers answers was now) (sym is)
+    (acted_ran setting fixed change (ask.Stage subject) old new answers was now refl (λ admin. stage_plain admin subject) (stage_ran fixed change subject old new was now played))
 
-pub ended_ran : (setting : Setting) (admin : Administration) (line : BlockLine) (numbers : Numbers) (old new : Book) (answers : List Answer) (was now : Opening → List Call → Type 0) → errand_on line ≡ ask.End numbers
-    → HasActed (Ending numbers) old new was now → HasRun setting admin (errand_on line) old new answers answers was now
-ended_ran setting admin line numbers old new answers was now is acted =
-    subst (λ (errand : Errand). HasRun setting admin errand old new answers answers was now) (sym is)
-    (acted_ran setting admin (ask.End numbers) old new answers was now refl refl acted)
+pub ended_ran : (setting fixed : Setting) (change : Label → Named) (line : BlockLine) (numbers : Numbers) (old new : Book) (answers : List Answer) (was now : Opening → List Call → Type 0) → errand_on line ≡ ask.End numbers
+    → HasActed fixed change (λ admin. Ending numbers) old new was now → HasRun setting fixed change (errand_on line) old new answers answers was now
+ended_ran setting fixed change line numbers old new answers was now is acted =
+    subst (λ (errand : Errand). HasRun setting fixed change errand old new answers answers was now) (sym is)
+    (acted_ran setting fixed change (ask.End numbers) old new answers was now refl (λ admin. refl) acted)
 
-pub spent_ran : (setting : Setting) (admin : Administration) (line : BlockLine) (time : ℕ) (old new : Book) (answers : List Answer) (was : Opening → List Call → Type 0) → errand_on line ≡ ask.Spend time
-    → Does old.state (Spends time) [] [] new.state → new.journal ≡ old.journal → HasRun setting admin (errand_on line) old new answers answers was was
-spent_ran setting admin line time old new answers was is does same =
-    subst (λ (errand : Errand). HasRun setting admin errand old new answers answers was was) (sym is)
-    (acted_ran setting admin (ask.Spend time) old new answers was was refl refl (spend_ran time old new was does same))
+pub spent_ran : (setting fixed : Setting) (change : Label → Named) (line : BlockLine) (time : ℕ) (old new : Book) (answers : List Answer) (was : Opening → List Call → Type 0) → errand_on line ≡ ask.Spend time
+    → Does old.state (Spends time) [] [] new.state → new.journal ≡ old.journal → HasRun setting fixed change (errand_on line) old new answers answers was was
+spent_ran setting fixed change line time old new answers was is does same =
+    subst (λ (errand : Errand). HasRun setting fixed change errand old new answers answers was was) (sym is)
+    (acted_ran setting fixed change (ask.Spend time) old new answers was was refl (λ admin. refl) (spend_ran fixed change time old new was does same))
 
 -- a SELECT's answer stands behind the others
-pub query_ran : (setting : Setting) (admin : Administration) (select : Select) (readings : List Reading) (answer : Answer) (old new : Book) (answers behind : List Answer) (was now : Opening → List Call → Type 0)
+pub query_ran : (setting fixed : Setting) (change : Label → Named) (select : Select) (readings : List Reading) (answer : Answer) (old new : Book) (answers behind : List Answer) (was now : Opening → List Call → Type 0)
     → IsReadSet (scope_of setting) select.table readings → AnswersRead setting select readings answer → behind ≡ answers ++ answer ∷ [] → Played (remark Query ∷ (looks readings ++ remark (Rows (length answer)) ∷ [])) old new was now
-    → HasRun setting admin (ask.Query select) old new answers behind was now
-query_ran setting admin select readings answer old new answers behind was now whole answered are played =
-    let acted : HasActed (Querying readings (length answer)) old new was now = ran (Querying readings (length answer)) _ old new was now refl refl played in
+    → HasRun setting fixed change (ask.Query select) old new answers behind was now
+query_ran setting fixed change select readings answer old new answers behind was now whole answered are played =
+    let acted : HasActed fixed change (λ admin. Querying readings (length answer)) old new was now = ran fixed change (Querying readings (length answer)) _ old new was now refl refl played in
     record {
       part = acted.part;
-      asked = ap bare acted.deed_is;
+      asked = record { admin = acted.admin; is = ap bare acted.deed_is };
       given = answer ∷ [];
       given_are = are;
       answered = (subst (IsQuery setting select answer) (sym acted.deed_is) (record { whole = whole; answered = answered; counted = refl }), refl);
       done = acted.done;
     }
 
-pub show_ran : (setting : Setting) (admin : Administration) (select : Select) (answer : Answer) (old new : Book) (answers behind : List Answer) (was now : Opening → List Call → Type 0) → AnswersHeld select admin.actors admin.objects answer
-    → behind ≡ answers ++ answer ∷ [] → HasActed (Showing admin (length answer)) old new was now → HasRun setting admin (ask.Show select) old new answers behind was now
-show_ran setting admin select answer old new answers behind was now answered are acted = record {
-  part = acted.part;
-  asked = ap bare acted.deed_is;
+pub show_ran : (setting fixed : Setting) (change : Label → Named) (select : Select) (answer : Answer) (old new : Book) (answers behind : List Answer) (was now : Opening → List Call → Type 0) → behind ≡ answers ++ answer ∷ []
+    → HasShown fixed change select answer old new was now → HasRun setting fixed change (ask.Show select) old new answers behind was now
+show_ran setting fixed change select answer old new answers behind was now are shown = record {
+  part = shown.part;
+  asked = record { admin = shown.admin; is = ap bare shown.deed_is };
   given = answer ∷ [];
   given_are = are;
-  answered = (subst (IsShow select answer) (sym acted.deed_is) (answered, refl), refl);
-  done = acted.done;
+  answered = (subst (IsShow select answer) (sym shown.deed_is) (shown.answered, refl), refl);
+  done = shown.done;
 }
 
 pub stage_depth : (subject : Option Subject) (old new : OpenEvents) → HasStaged subject old new → new.depth ≡ old.depth

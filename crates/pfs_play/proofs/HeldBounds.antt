@@ -1,7 +1,6 @@
 -- A session holds back an amount for each of 193 cells at most, so that is all it ever owes.
 use Rattle.std.proofs.Common.{ℕ, ◌≡◌, ◌≤◌, ◌+◌, Bool, true, false, List, [], ◌∷◌, Option, Some, None, length, refl, ap, ◌∙◌, arith}
 use Rattle.std.proofs.lemmas.List.{length-set}
-use Rattle.pfs_play.specs.StoreDeeds.{HasActed}
 use Rattle.pfs_admin.specs.SetupStatements.{most_of, word_count}
 use Rattle.pfs_admin.specs.declared.changes.SetupStatement.{SetupStatement}
 use Rattle.pfs_admin.specs.declared.changes.SetupStatement.TheVariants as statements
@@ -101,7 +100,3 @@ words_fit statements.Show = omega arith
 -- so it is behind steps that were played
 pub played_wide : (steps : List Step) (old new : Book) (was now : Opening → List Call → Type 0) → Played steps old new was now → width old.state ≡ 193 → width new.state ≡ 193
 played_wide steps old new was now p wide = ap width p.state_is ∙ turns_wide old.state p.turns p.are_turns wide
-
--- and behind what it did in one part
-pub acted_wide : (deed : Deed) (old new : Book) (was now : Opening → List Call → Type 0) → HasActed deed old new was now → width old.state ≡ 193 → width new.state ≡ 193
-acted_wide deed old new was now run wide = ap width run.done.state ∙ parts_wide old.state (run.part ∷ []) run.done.are_parts wide

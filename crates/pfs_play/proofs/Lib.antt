@@ -5,6 +5,7 @@ pub mod NextLines
 pub mod RepeatedLines
 pub mod WrittenRepeats
 pub mod NeedSteps
+pub mod LineLabels
 mod ReadingCounts
 mod LineCosts
 pub mod HeldBounds

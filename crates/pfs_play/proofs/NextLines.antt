@@ -6,6 +6,8 @@ use Rattle.std.proofs.lemmas.List.{append-nil, map-append}
 use Rattle.std.proofs.lemmas.List.Elements.{Contains-append_right}
 use Rattle.pfs_play.proofs.FurtherDeeds.{nothing, then}
 use Rattle.pfs_admin.specs.AdministrationStates.{State as Administration}
+use Rattle.pfs_admin.specs.declared.changes.Change.{Change}
+use Rattle.pfs_board.specs.declared.view.Label.{Label}
 use Rattle.pfs_classes.specs.declared.classes.ClassRef.{ClassRef}
 use Rattle.pfs_classes.specs.declared.classes.ClassRef.TheVariants as refs
 use Rattle.pfs_classes.specs.declared.setting.Setting.{Setting}
@@ -42,7 +44,7 @@ use Rattle.pfs_exec.specs.declared.requests.Request.{Request}
 use Rattle.pfs_exec.specs.declared.requests.Request.TheVariants as requests
 use Rattle.pfs_play.specs.Errand.{Errand}
 use Rattle.pfs_play.specs.Errand as ask
-use Rattle.pfs_play.specs.Errands.{admin_after, admin_behind, deed_of, errand_on, selection_of, sql_errand, is_quit, HasRun, HavePlayed, AreOf, StagesLie}
+use Rattle.pfs_play.specs.Errands.{AreFor, HasRun, HavePlayed, IsFor, StagesLie, asks_on, deed_of, errand_on, is_quit, selection_of, sql_errand}
 
 sql_same : (admin : Administration) (what : Request) → deed_of admin (sql_errand what) ≡ sql_deed admin what
 sql_same admin (requests.Refused error) = refl
@@ -240,7 +242,7 @@ may_bare s (Querying readings count) there may = (refl, there)
 may_bare s (Refusing error) there may = may
 may_bare s Closing there may = may
 
-over_bare : (over : Bool) (deed : Deed) → is_over over deed ≡ is_over over (bare deed)
+pub over_bare : (over : Bool) (deed : Deed) → is_over over deed ≡ is_over over (bare deed)
 over_bare over (Connecting admin user host) = refl
 over_bare over (Starting subject) = refl
 over_bare over (Staging subject) = refl
@@ -280,12 +282,20 @@ line_selects (said.Sql text) = sql_selects (request_of text)
 line_selects (said.Repeat times) = refl
 line_selects said.Done = refl
 
+-- what lines ask for, and then others
+pub asks_on_then : (xs ys : List BlockLine) → asks_on (xs ++ ys) ≡ asks_on xs ++ asks_on ys
+asks_on_then xs ys = map-append {B = Administration → Deed} (λ (line : BlockLine) (admin : Administration). deed_on admin line) xs ys
+
+-- a part that is an errand's is its line's
+line_for : (line : BlockLine) (deed : Deed) → IsFor (λ admin. deed_of admin (errand_on line)) deed → IsFor (λ admin. deed_on admin line) deed
+line_for line deed is = record { admin = is.admin; is = is.is ∙ errand_deed is.admin line }
+
 -- lists with one more
-of_more : (admin : Administration) (lines : List BlockLine) (line : BlockLine) (parts : List Part) (p : Part) → AreOf admin lines parts → bare p.deed ≡ deed_on (admin_after admin lines) line → AreOf admin (lines ++ line ∷ []) (parts ++ p ∷ [])
-of_more admin [] line [] p are one = (one, tt)
-of_more admin [] line (x ∷ xs) p are one = absurd are
-of_more admin (l ∷ ls) line [] p are one = absurd are
-of_more admin (l ∷ ls) line (x ∷ xs) p are one = (are.0, of_more (admin_behind admin (errand_on l)) ls line xs p are.1 one)
+for_more : (asks : List (Administration → Deed)) (ask : Administration → Deed) (parts : List Part) (p : Part) → AreFor asks parts → IsFor ask p.deed → AreFor (asks ++ ask ∷ []) (parts ++ p ∷ [])
+for_more [] ask [] p are one = (one, tt)
+for_more [] ask (x ∷ xs) p are one = absurd are
+for_more (a ∷ others) ask [] p are one = absurd are
+for_more (a ∷ others) ask (x ∷ xs) p are one = (are.0, for_more others ask xs p are.1 one)
 
 may_more : (over : Bool) (s : State) (parts : List Part) (p : Part) → MayDoAll over s parts → MayDo (over_behind over parts) (state_behind s parts) p.deed → MayDoAll over s (parts ++ p ∷ [])
 may_more over s [] p may one = (one, tt)
@@ -296,39 +306,50 @@ over_more over [] p = refl
 over_more over (x ∷ xs) p = over_more (is_over over x.deed) xs p
 
 -- nothing was played
-pub played_nothing : (setting : Setting) (admin : Administration) (book : Book) (answers : List Answer) (was : Opening → List Call → Type 0) → HavePlayed setting [] admin book book answers answers was was
-played_nothing setting admin book answers was = record { parts = []; are_of = tt; may = tt; goes_on = refl; given = []; given_are = sym (append-nil answers); answered = refl; done = nothing book was }
+pub played_nothing : (setting fixed : Setting) (change : Label → Change) (book : Book) (answers : List Answer) (was : Opening → List Call → Type 0) → HavePlayed setting fixed change [] book book answers answers was was
+played_nothing setting fixed change book answers was = record {
+  parts = [];
+  asked = tt;
+  may = tt;
+  goes_on = refl;
+  given = [];
+  given_are = sym (append-nil answers);
+  answered = refl;
+  done = nothing fixed change book was;
+}
 
 -- one line more
-pub played_more : (setting : Setting) (lines : List BlockLine) (line : BlockLine) (admin : Administration) (old at new : Book) (answers behind more : List Answer) (was mid now : Opening → List Call → Type 0) → is_quit line ≡ false
-    → HavePlayed setting lines admin old at answers behind was mid → HasRun setting (admin_after admin lines) (errand_on line) at new behind more mid now → HavePlayed setting (lines ++ line ∷ []) admin old new answers more was now
-played_more setting lines line admin old at new answers behind more was mid now quits before run =
+pub played_more : (setting fixed : Setting) (change : Label → Change) (lines : List BlockLine) (line : BlockLine) (old at new : Book) (answers behind more : List Answer) (was mid now : Opening → List Call → Type 0) → is_quit line ≡ false
+    → HavePlayed setting fixed change lines old at answers behind was mid → HasRun setting fixed change (errand_on line) at new behind more mid now → HavePlayed setting fixed change (lines ++ line ∷ []) old new answers more was now
+played_more setting fixed change lines line old at new answers behind more was mid now quits before run =
     let p : Part = run.part in
     let ps : List Part = before.parts in
-    let after : Administration = admin_after admin lines in
-    let deed_is : bare p.deed ≡ deed_on after line = run.asked ∙ errand_deed after line in
-    let there : IsOfStore p.deed = errand_of_store setting after (errand_on line) p run.given run.asked run.answered in
+    let its : IsFor (λ admin. deed_on admin line) p.deed = line_for line p.deed run.asked in
+    let after : Administration = its.admin in
+    let there : IsOfStore p.deed = errand_of_store setting run.asked.admin (errand_on line) p run.given run.asked.is run.answered in
     let may : MayDo (over_behind false ps) (state_behind old.state ps) p.deed =
     subst (λ (b : Bool). MayDo b (state_behind old.state ps) p.deed) (sym before.goes_on)
-    (may_bare (state_behind old.state ps) p.deed there (subst (MayDo false (state_behind old.state ps)) (sym deed_is) (may_do (state_behind old.state ps) after line quits))) in
+    (may_bare (state_behind old.state ps) p.deed there (subst (MayDo false (state_behind old.state ps)) (sym its.is) (may_do (state_behind old.state ps) after line quits))) in
     let shown : AreAnswers (Answers setting) (map selection_on (line ∷ [])) (p ∷ []) run.given =
     subst (λ (one : Option Selection). AreAnswers (Answers setting) (one ∷ []) (p ∷ []) run.given) (line_selects line) run.answered in
     record {
       parts = ps ++ p ∷ [];
-      are_of = of_more admin lines line ps p before.are_of deed_is;
+      asked = subst (λ (z : List (Administration → Deed)). AreFor z (ps ++ p ∷ [])) (sym (asks_on_then lines (line ∷ []))) (for_more (asks_on lines) (λ admin. deed_on admin line) ps p before.asked its);
       may = may_more false old.state ps p before.may may;
       goes_on = over_more false ps p
-          ∙ (ap (λ (b : Bool). is_over b p.deed) before.goes_on ∙ (over_bare false p.deed ∙ (ap (λ (d : Deed). is_over false d) deed_is ∙ goes_on after line quits)));
+          ∙ (ap (λ (b : Bool). is_over b p.deed) before.goes_on ∙ (over_bare false p.deed ∙ (ap (λ (d : Deed). is_over false d) its.is ∙ goes_on after line quits)));
       given = before.given ++ run.given;
       given_are = run.given_are ∙ (ap (λ (z : List Answer). z ++ run.given) before.given_are ∙ append_assoc answers before.given run.given);
       answered = answers_on setting lines (line ∷ []) ps (p ∷ []) before.given run.given before.answered shown;
-      done = then ps (p ∷ []) old at new was mid now before.done run.done;
+      done = then fixed change ps (p ∷ []) old at new was mid now before.done run.done;
     }
 
 -- the kinds that are open behind a line
-pub run_kinds : (setting : Setting) (admin : Administration) (line : BlockLine) (old new : Book) (answers behind : List Answer) (was now : Opening → List Call → Type 0) → HasRun setting admin (errand_on line) old new answers behind was now
+pub run_kinds : (setting fixed : Setting) (change : Label → Change) (line : BlockLine) (old new : Book) (answers behind : List Answer) (was now : Opening → List Call → Type 0) → HasRun setting fixed change (errand_on line) old new answers behind was now
     → kinds_at new.state ≡ kinds_behind (mark_of line) (kinds_at old.state)
-run_kinds setting admin line old new answers behind was now run = ap kinds_at run.done.state ∙ kinds_part old.state admin line run.part run.done.are_parts.0 (run.asked ∙ errand_deed admin line)
+unfolding line_for
+run_kinds setting fixed change line old new answers behind was now run =
+    ap kinds_at run.done.state ∙ kinds_part old.state run.asked.admin line run.part run.done.are_parts.0 (line_for line run.part.deed run.asked).is
 
 -- a statement still lies around each stage
 lies_less : (kind : EventKind) (kinds : List EventKind) → StagesLie (kind ∷ kinds) → StagesLie kinds

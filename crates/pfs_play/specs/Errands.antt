@@ -1,10 +1,10 @@
 -- What lines of a script ask their session to do, and what it does.
 use Rattle.std.specs.Prelude.{ℕ, ◌≡◌, ◌<◌, ◌+◌, Bool, true, false, List, [], ◌∷◌, ◌++◌, length, map, Option, Some, None, IfSome}
-use Rattle.pfs_play.specs.StoreDeeds.{HasDone}
+use Rattle.pfs_actor.specs.ActorDeeds.{HasDone}
 use Rattle.pfs_admin.specs.AdministrationStates.{State as Administration}
-use Rattle.pfs_admin.specs.SetupStatements.{has_changed}
-use Rattle.pfs_admin.specs.Truncations.{has_truncated}
+use Rattle.pfs_admin.specs.declared.changes.Change.{Change}
 use Rattle.pfs_admin.specs.declared.changes.SetupStatement.TheVariants as statements
+use Rattle.pfs_board.specs.declared.view.Label.{Label}
 use Rattle.pfs_classes.specs.declared.setting.Setting.{Setting}
 use Rattle.pfs_event.specs.Nests.{OpenEvents, MayStart}
 use Rattle.pfs_event.specs.declared.kind.EventKind.{EventKind}
@@ -21,7 +21,7 @@ use Rattle.pfs_script.specs.KnownClasses.{IsKnown}
 use Rattle.pfs_session.specs.SessionStates.{Book, without_stage}
 use Rattle.pfs_session.specs.Turns.{StageMayStart}
 use Rattle.pfs_session.specs.Ends.{no_numbers}
-use Rattle.pfs_runs.specs.ScriptLines.{wait_on, statement_on, transaction_on, stage_on}
+use Rattle.pfs_runs.specs.ScriptLines.{changes_on, wait_on, statement_on, transaction_on, stage_on}
 use Rattle.pfs_runs.specs.SelectAnswers.{Answer, Selection, Stored, Held, AreAnswers, selection_on}
 use Rattle.pfs_law_plain.specs.ToldAnswers.{Answers}
 use Rattle.pfs_law_plain.specs.LineDeeds.{bare, deed_on}
@@ -95,23 +95,6 @@ actions_of (ask.Refuse error) = 0
 abbrev pub actions_on : List BlockLine → ℕ
 actions_on [] = 0
 actions_on (line ∷ lines) = actions_of (errand_on line) + actions_on lines
-
--- the administration behind it, where it isn't the session's end: each action is one step
-abbrev pub admin_behind : Administration → Errand → Administration
-admin_behind admin (ask.Start subject) = admin
-admin_behind admin (ask.Stage subject) = admin
-admin_behind admin (ask.End numbers) = admin
-admin_behind admin (ask.Spend time) = admin
-admin_behind admin ask.Quit = admin
-admin_behind admin (ask.Truncate what) = has_truncated admin what
-admin_behind admin (ask.Change what) = has_changed admin what
-admin_behind admin (ask.Query select) = admin
-admin_behind admin (ask.Show select) = has_changed admin statements.Show
-admin_behind admin (ask.Refuse error) = admin
-
-abbrev pub admin_after : Administration → List BlockLine → Administration
-admin_after admin [] = admin
-admin_after admin (line ∷ lines) = admin_after (admin_behind admin (errand_on line)) lines
 
 -- the deed that an errand is to its session, before this administration; what a SELECT reads and shows stands in none
 abbrev pub deed_of : Administration → Errand → Deed
@@ -211,33 +194,53 @@ abbrev pub kinds_after : List EventKind → List BlockLine → List EventKind
 kinds_after kinds [] = kinds
 kinds_after kinds (line ∷ lines) = kinds_after (kinds_behind (mark_of line) kinds) lines
 
--- each part is the line's, before the administration that the lines before it leave
-abbrev pub AreOf : Administration → List BlockLine → List Part → Type 0
-AreOf admin [] [] = Unit {0}
-AreOf admin (line ∷ lines) (p ∷ ps) =
-    (bare p.deed ≡ deed_on admin line) × AreOf (admin_behind admin (errand_on line)) lines ps
-AreOf _ _ _ = ⊥
+-- the labels of a session's next actions, of which it has made so many, name these changes
+abbrev pub LabelsName : (Label → Change) → ℕ → ℕ → List Change → Type 0
+LabelsName change session made [] = Unit {0}
+LabelsName change session made (one ∷ others) = (change (record { session = session; line = made + 1 }) ≡ one)
+    × LabelsName change session (made + 1) others
 
--- a session did an errand, before this administration, in one part; where it is a SELECT its answer stands behind those
--- before
-pub record HasRun (setting : Setting) (admin : Administration) (errand : Errand) (old new : Book)
+-- and those that these lines ask for, of which none but the last ends the session
+abbrev pub NamesLines : (Label → Change) → ℕ → ℕ → List BlockLine → Type 0
+NamesLines change session made [] = Unit {0}
+NamesLines change session made (line ∷ lines) = LabelsName change session made (changes_on line)
+    × NamesLines change session (made + actions_of (errand_on line)) lines
+
+-- what is asked of a session is a deed that waits for its administration: one is done where it is that deed before some
+-- administration, but for what a SELECT read and how many rows it showed, which nobody asks for
+pub record IsFor (ask : Administration → Deed) (deed : Deed) : Type 0 where
+  pub admin : Administration
+  pub is : bare deed ≡ ask admin
+
+-- parts do what is asked, one after another
+abbrev pub AreFor : List (Administration → Deed) → List Part → Type 0
+AreFor [] [] = Unit {0}
+AreFor (ask ∷ asks) (p ∷ ps) = IsFor ask p.deed × AreFor asks ps
+AreFor _ _ = ⊥
+
+-- what lines ask for
+abbrev pub asks_on : List BlockLine → List (Administration → Deed)
+asks_on lines = map (λ (line : BlockLine) (admin : Administration). deed_on admin line) lines
+
+-- a session did an errand in one part, in a run that fixes this and changes that; where it is a SELECT its answer, in
+-- this setting, stands behind those before
+pub record HasRun (setting fixed : Setting) (change : Label → Change) (errand : Errand) (old new : Book)
     (before after : List Answer) (was now : Opening → List Call → Type 0) : Type 0 where
   pub part : Part
-  pub asked : bare part.deed ≡ deed_of admin errand
+  pub asked : IsFor (λ admin. deed_of admin errand) part.deed
   pub given : List Answer
   pub given_are : after ≡ before ++ given
   pub answered : AreAnswers (Answers setting) (selection_of errand ∷ []) (part ∷ []) given
-  pub done : HasDone (part ∷ []) old new was now
+  pub done : HasDone fixed change (part ∷ []) old new was now
 
--- a session did these lines, one after another, the first before this administration, and nothing else; the answers of
--- its SELECTs stand behind those before
-pub record HavePlayed (setting : Setting) (lines : List BlockLine) (admin : Administration) (old new : Book)
+-- a session did these lines, one after another, and nothing else; the answers of its SELECTs stand behind those before
+pub record HavePlayed (setting fixed : Setting) (change : Label → Change) (lines : List BlockLine) (old new : Book)
     (before after : List Answer) (was now : Opening → List Call → Type 0) : Type 0 where
   pub parts : List Part
-  pub are_of : AreOf admin lines parts
+  pub asked : AreFor (asks_on lines) parts
   pub may : MayDoAll false old.state parts
   pub goes_on : over_behind false parts ≡ false
   pub given : List Answer
   pub given_are : after ≡ before ++ given
   pub answered : AreAnswers (Answers setting) (map selection_on lines) parts given
-  pub done : HasDone parts old new was now
+  pub done : HasDone fixed change parts old new was now

@@ -1,4 +1,3 @@
-pub mod StoreDeeds
 pub mod Errand
 pub mod Errands
 pub mod Needs

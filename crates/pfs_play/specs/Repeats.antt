@@ -1,6 +1,7 @@
 -- The lines of a block with their repeats, as they may be played.
 use Rattle.std.specs.Prelude.{ℕ, ◌≡◌, List, [], ◌∷◌, ◌++◌, Option, Some, None}
-use Rattle.pfs_admin.specs.AdministrationStates.{State as Administration}
+use Rattle.pfs_admin.specs.declared.changes.Change.{Change}
+use Rattle.pfs_board.specs.declared.view.Label.{Label}
 use Rattle.pfs_classes.specs.declared.setting.Setting.{Setting}
 use Rattle.pfs_event.specs.declared.kind.EventKind.{EventKind}
 use Rattle.pfs_script.specs.declared.blocks.BlockLine.{BlockLine}
@@ -11,7 +12,7 @@ use Rattle.pfs_levels.specs.Views.{Store}
 use Rattle.pfs_script.specs.Marks.{written_from}
 use Rattle.pfs_runs.specs.SelectAnswers.{Answer}
 use Rattle.pfs_session.specs.SessionStates.{Book}
-use Rattle.pfs_play.specs.Errands.{HavePlayed, MayPlay, admin_after}
+use Rattle.pfs_play.specs.Errands.{HavePlayed, MayPlay}
 use Rattle.pfs_play.specs.Needs.{Advanced, need_on}
 
 -- Where events of these kinds are open, each line may be played where it stands; the lines of a repeat, that began where
@@ -24,15 +25,13 @@ AllMayPlay classes depth kinds (Some start) (said.Done ∷ rest) =
 AllMayPlay classes depth kinds start (line ∷ rest) =
     MayPlay classes depth kinds line × AllMayPlay classes depth (kinds_behind (mark_of line) kinds) start rest
 
--- of lines that are written out, those before the others were played, from the one administration to the other, by what
--- they need
-pub record HaveGone (setting : Setting) (whole rest : List BlockLine) (admin after : Administration) (old new : Book)
+-- of lines that are written out, those before the others were played, by what they need
+pub record HaveGone (setting fixed : Setting) (change : Label → Change) (whole rest : List BlockLine) (old new : Book)
     (answers behind : List Answer) (was now : Store) : Type 0 where
   pub first : List BlockLine
   pub are : whole ≡ first ++ rest
-  pub played : HavePlayed setting first admin old new answers behind was.reached now.reached
-  pub after_is : after ≡ admin_after admin first
-  pub advanced : Advanced (need_on first) old new admin after was now
+  pub played : HavePlayed setting fixed change first old new answers behind was.reached now.reached
+  pub advanced : Advanced (need_on first) old new was now
 
 -- the lines of a repeat, from here on, written out
 abbrev pub repeated : ℕ → List BlockLine → List BlockLine

@@ -2,8 +2,9 @@
 
 ghost use Rattle.std.specs.Prelude.{◌≡◌, ◌<◌, ◌≤◌, ◌+◌, ◌^◌, ℕ, List, None, false, length};
 ghost use Rattle.pfs_levels.specs.Views.{Affords, Used};
-ghost use Rattle.pfs_play.specs.StoreDeeds.{HasActed};
-ghost use Rattle.pfs_admin.specs.AdministrationStates.{State as Administration};
+ghost use Rattle.pfs_actor.specs.ActorDeeds.{HasActed};
+ghost use Rattle.pfs_admin.specs.declared.changes.Change.{Change};
+ghost use Rattle.pfs_board.specs.declared.view.Label.{Label};
 ghost use Rattle.pfs_classes.specs.declared.setting.Setting.{Setting};
 ghost use Rattle.pfs_law_session.specs.Deeds.{Ending};
 ghost use Rattle.pfs_runs.specs.SelectAnswers.{Answer};
@@ -114,8 +115,8 @@ pub(crate) fn play_event<R: Rows>(session: &mut Session, rows: &mut R, line: &Bl
     requires wide { length session.old.state.held ≡ 193 }
     requires alone { (r : ℕ) → 0 < r → (R.seen rows.old).hand r ≡ None }
     requires affords { Affords 11 2 (cost_of (errand_on line.now)) (R.seen rows.old) session.old.journal }
-    ensures run { (setting : Setting) (admin : Administration) (answers : List Answer) → HasRun setting admin
-        (errand_on line.now) session.old session.new answers answers (R.seen rows.old).reached
+    ensures run { (setting : Setting) (fixed : Setting) (change : Label → Change) (answers : List Answer) → HasRun
+        setting fixed change (errand_on line.now) session.old session.new answers answers (R.seen rows.old).reached
         (R.seen rows.new).reached }
     ensures drawn { session.new.state.drawn ≤ session.old.state.drawn + 1 }
     ensures rest { session.new.state ≡ record session.old.state {
@@ -163,10 +164,11 @@ pub(crate) fn play_event<R: Rows>(session: &mut Session, rows: &mut R, line: &Bl
 fn end<R: Rows>(session: &mut Session, rows: &mut R, numbers: &Numbers)
     requires may { MayRun (ask.End numbers.now) session.old.state.opened }
     requires early { session.old.state.drawn + 1 < 2 ^ 64 }
+    requires wide { length session.old.state.held ≡ 193 }
     requires alone { (r : ℕ) → 0 < r → (R.seen rows.old).hand r ≡ None }
     requires affords { Affords 11 2 14 (R.seen rows.old) session.old.journal }
-    ensures run { HasActed (Ending numbers.now) session.old session.new (R.seen rows.old).reached
-        (R.seen rows.new).reached }
+    ensures run { (fixed : Setting) (change : Label → Change) → HasActed fixed change (λ admin. Ending numbers.now)
+        session.old session.new (R.seen rows.old).reached (R.seen rows.new).reached }
     ensures drawn { session.new.state.drawn ≤ session.old.state.drawn + 1 }
     ensures rest { session.new.state ≡ record session.old.state {
       clock = session.new.state.clock;
@@ -176,6 +178,7 @@ fn end<R: Rows>(session: &mut Session, rows: &mut R, numbers: &Numbers)
       nexts = session.new.state.nexts;
     } }
     ensures depth { session.new.state.opened.depth ≡ session.old.state.opened.depth }
+    ensures wide { length session.new.state.held ≡ 193 }
     ensures owed { length (owed_by_state session.new.state) ≤ length (owed_by_state session.old.state) + 4 }
     ensures used { Used 11 2 14 (R.seen rows.old) (R.seen rows.new) session.old.journal session.new.journal }
 {

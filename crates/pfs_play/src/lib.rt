@@ -1,7 +1,6 @@
-//! Playing the lines of a script in their session, and the actions among them, over any store.
+//! Playing the lines of a script in their session, over any actor.
 #![tactic(auto)]
 
-mod actions;
 mod costs;
 mod events;
 mod lines;
@@ -9,7 +8,6 @@ mod queries;
 mod repeats;
 mod requests;
 
-pub use actions::{act, connect, quit, show_held, truncate};
 pub use costs::written_cost;
 pub use lines::{play_line, play_lines};
 pub use repeats::{play_times, play_written};

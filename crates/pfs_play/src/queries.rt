@@ -1,10 +1,13 @@
 //! SELECTs of a session: what is read of the store, and what is held by the administration.
 
 ghost use Rattle.std.specs.Prelude.{◌≡◌, ◌<◌, ◌≤◌, ◌+◌, ◌^◌, Some, IfOk, OnOk, length};
-ghost use Rattle.pfs_levels.specs.Views.{Used, lent_as};
-ghost use Rattle.pfs_admin.specs.SetupStatements.{has_changed};
-ghost use Rattle.pfs_admin.specs.AdministrationStates.{State as Administration};
+ghost use Rattle.pfs_actor.specs.ActionAsks.{MayAct};
+ghost use Rattle.pfs_admin.specs.declared.changes.Change.{Change};
+ghost use Rattle.pfs_admin.specs.declared.changes.Change.TheVariants.{Setup};
 ghost use Rattle.pfs_admin.specs.declared.changes.SetupStatement.TheVariants.{Show};
+ghost use Rattle.pfs_board.specs.declared.view.Label.{Label};
+ghost use Rattle.pfs_law_plain.specs.Spells.{label_of};
+ghost use Rattle.pfs_levels.specs.Views.{Used};
 ghost use Rattle.pfs_classes.specs.declared.setting.Setting.{Setting as AnySetting};
 ghost use Rattle.pfs_law_session.specs.Deeds.{looks};
 ghost use Rattle.pfs_reader.specs.Readings.{HoldsNone};
@@ -15,14 +18,13 @@ ghost use Rattle.pfs_session.specs.SessionStates.{nothing_held};
 ghost use Rattle.pfs_session.specs.Turns.{Played};
 ghost use Rattle.pfs_setups.specs.HeldRows.{IsHeld};
 ghost use Rattle.pfs_play.specs.Errands.{HasRun};
-ghost use Rattle.pfs_play.specs.Needs.{MayAct};
 ghost use Rattle.pfs_play.specs.Errand as ask;
 
-use crate::{NoMemory, show_held};
-use pfs_admin::Admin;
+use crate::NoMemory;
+use pfs_actor::Actor;
 use pfs_classes::Setting;
 use pfs_exec::{Select, select};
-use pfs_levels::{Acts, Rows};
+use pfs_levels::Rows;
 use pfs_reader::{Reader, ReadingList};
 use pfs_rows::Table;
 use pfs_session::{Remark, Session};
@@ -67,8 +69,9 @@ pub(crate) fn query<R: Rows>(
 ) -> Result<(), NoMemory>
     requires away { HoldsNone (R.seen rows.old).hand }
     requires room { 14405 ≤ session.old.journal.room }
-    ensures run { OnOk result ((admin : Administration) → HasRun setting.now admin (ask.Query what) session.old
-        session.new answers.old.items answers.new.items (R.seen rows.old).reached (R.seen rows.new).reached) }
+    ensures run { OnOk result ((fixed : AnySetting) → (change : Label → Change) → HasRun setting.now fixed change
+        (ask.Query what) session.old session.new answers.old.items answers.new.items (R.seen rows.old).reached
+        (R.seen rows.new).reached) }
     ensures state { OnOk result (session.new.state ≡ session.old.state) }
     ensures used { OnOk result (Used 0 0 14405 (R.seen rows.old) (R.seen rows.new) session.old.journal
         session.new.journal) }
@@ -84,21 +87,20 @@ pub(crate) fn query<R: Rows>(
 
 /// Answers a SELECT by what the administration holds, an action. Whatever is held, it takes no more than this. Err is
 /// NoMemory alone.
-pub(crate) fn show_table<A: Acts>(
+pub(crate) fn show_table<A: Actor>(
     alloc: Global,
     session: &mut Session,
-    rows: &mut A,
-    admin: &mut Admin,
+    actor: &mut A,
     answers: &mut Vec<Rowset>,
     what: Select,
 ) -> Result<(), NoMemory>
+    requires named { A.change (label_of session.old.state) ≡ Setup Show }
     requires held { IsHeld what.table }
     requires rare { session.old.state.actions + 1 < 2 ^ 64 }
     requires wide { length session.old.state.held ≡ 193 }
-    requires acts { MayAct 194 260 admin.old (A.seen rows.old) session.old.journal }
-    ensures run { OnOk result ((setting : AnySetting) → HasRun setting admin.old (ask.Show what) session.old
-        session.new answers.old.items answers.new.items (A.seen rows.old).reached (A.seen rows.new).reached) }
-    ensures admin { OnOk result (admin.new ≡ has_changed admin.old Show) }
+    requires acts { MayAct 194 260 (A.seen actor.old) session.old.journal }
+    ensures run { OnOk result ((setting : AnySetting) → HasRun setting A.setting A.change (ask.Show what) session.old
+        session.new answers.old.items answers.new.items (A.seen actor.old).reached (A.seen actor.new).reached) }
     ensures rest { OnOk result (session.new.state ≡ record session.old.state {
       held = nothing_held;
       actions = session.old.state.actions + 1;
@@ -106,10 +108,10 @@ pub(crate) fn show_table<A: Acts>(
     }) }
     ensures owed { OnOk result (length (owed_by_state session.new.state)
         ≤ length (owed_by_state session.old.state)) }
-    ensures used { OnOk result (Used 194 0 260 (lent_as admin.new.words (A.seen rows.old)) (A.seen rows.new)
+    ensures used { OnOk result (Used 194 0 260 (A.seen actor.old) (A.seen actor.new)
         session.old.journal session.new.journal) }
 {
-    let answer = show_held(alloc, session, rows, admin, &what)?;
+    let answer = actor.show_held(alloc, session, &what)?;
     answers.push(answer)?;
     Ok(())
 }

@@ -9,7 +9,6 @@ mod SessionLengths
 mod ReadySessions
 mod ReportedPhases
 mod RunProgress
-mod SlotBounds
 mod RunnerState
 mod RunSteps
 mod SelectLines

@@ -1,7 +1,7 @@
 -- Each line of a session ends two events at most, so a block says of few digests that they were lost.
 use Rattle.std.proofs.Common.{ℕ, ◌≡◌, ◌≤◌, ◌*◌, Bool, true, false, cond, List, [], ◌∷◌, length, Option, Some, None, refl, ap, length-append, arith}
-use Rattle.pfs_admin.specs.AdministrationStates.{State as Administration}
-use Rattle.pfs_law_script.specs.Course.{deeds_in, deeds_of}
+use Rattle.pfs_law_script.specs.Course.{asks_of}
+use Rattle.pfs_play.specs.Errands.{AreFor}
 use Rattle.pfs_law_report.proofs.DigestLosses.{behind_all, ends_at, query_none, step_none, rings_none, sum_of, sum_then, unplaced_few, unplaced_then}
 use Rattle.pfs_law_report.specs.LostCounts.{lost_digests, unplaced_in}
 use Rattle.pfs_event.specs.Verdicts.{is_let_through}
@@ -92,7 +92,5 @@ parts_few ends s (p ∷ ps) are =
     let steps = ap (sum_of ends_at) are.0.steps_are in
     omega (arith, both, steps, turns_few ends s p.turns are.0.are_turns, deed_few s p.deed, parts_few (behind_all ends (part_entries p)) (state_after s p.turns) ps are.1)
 
-pub block_digests : (s : State) (parts : List Part) (admin : Administration) (number : ℕ) (names : Option Connect) (lines : List BlockLine) → AreParts s parts → deeds_in parts ≡ deeds_of admin number names lines → length lines ≤ 200000
-    → lost_digests (joined (entries_of parts)) ≤ 1200012
-block_digests s parts admin number names lines are deeds short =
-    omega (arith, block_short parts admin number names lines deeds short, parts_few false s parts are)
+pub block_digests : (s : State) (parts : List Part) (names : Option Connect) (lines : List BlockLine) → AreParts s parts → AreFor (asks_of names lines) parts → length lines ≤ 200000 → lost_digests (joined (entries_of parts)) ≤ 1200012
+block_digests s parts names lines are asked short = omega (arith, block_short parts names lines asked short, parts_few false s parts are)

@@ -9,7 +9,7 @@ use Rattle.pfs_admin.specs.declared.changes.Reply.{Reply}
 use Rattle.pfs_admin.specs.declared.changes.Reply.TheVariants as replies
 use Rattle.pfs_admin.specs.declared.changes.SetupStatement.{SetupStatement}
 use Rattle.pfs_admin.specs.declared.changes.SetupStatement.TheVariants.{Update, Insert, Delete, Show}
-use Rattle.pfs_law_script.specs.Course.{connected_by, connecting, deeds_along, deeds_in, deeds_of}
+use Rattle.pfs_law_script.specs.Course.{asks_of, connecting}
 use Rattle.pfs_law_report.specs.LostCounts.{started}
 use Rattle.pfs_law_report.proofs.StartLosses.{started_one, started_then}
 use Rattle.pfs_event.specs.Verdicts.{is_let_through}
@@ -30,7 +30,7 @@ use Rattle.pfs_law_session.proofs.SettlementEntries.{ArePlain, settle_plain}
 use Rattle.pfs_law_session.proofs.LineEntries.{ends_by, has_stage}
 use Rattle.pfs_law_session.specs.Deeds.{Deed, Connecting, Starting, Staging, StageEnding, Ending, Spending, Quitting, Truncating, Changing, Showing, Querying, Refusing, Closing, Part, looks, part_entries, remark, steps_for}
 use Rattle.pfs_law_session.specs.JournalLaws.{AreParts, entries_of}
-use Rattle.pfs_play.specs.Errands.{admin_behind, errand_on}
+use Rattle.pfs_play.specs.Errands.{AreFor, asks_on}
 use Rattle.pfs_rows.specs.declared.table.Reading.{Reading}
 use Rattle.pfs_rows.specs.declared.table.Reading.TheVariants as readings
 use Rattle.pfs_rows.specs.declared.table.Seen.TheVariants as seen
@@ -218,30 +218,29 @@ parts_few test s (p ∷ ps) are =
     let steps = ap starts_of are.0.steps_are in
     omega (arith, both, steps, turns_few test s p.turns are.0.are_turns, deed_few s p.deed, parts_few test (state_after s p.turns) ps are.1)
 
--- a block has a deed for each line, one for its connect and one for its end
-deeds_length : (parts : List Part) → length (deeds_in parts) ≡ length parts
-deeds_length [] = refl
-deeds_length (p ∷ ps) = ap suc (deeds_length ps)
+-- a block asks for a deed for each line, one for its connect and one for its end
+for_length : (asks : List (Administration → Deed)) (parts : List Part) → AreFor asks parts → length parts ≡ length asks
+for_length [] [] are = refl
+for_length [] (p ∷ ps) are = absurd are
+for_length (ask ∷ asks) [] are = absurd are
+for_length (ask ∷ asks) (p ∷ ps) are = ap suc (for_length asks ps are.1)
 
-connect_few : (admin : Administration) (names : Option Connect) → length (connecting admin names) ≤ 1
-connect_few admin None = omega arith
-connect_few admin (Some names) = omega arith
+connect_few : (names : Option Connect) → length (connecting names) ≤ 1
+connect_few None = omega arith
+connect_few (Some names) = omega arith
 
-along_length : (admin : Administration) (lines : List BlockLine) → length (deeds_along admin lines) ≡ length lines
-along_length admin [] = refl
-along_length admin (line ∷ lines) = ap suc (along_length (admin_behind admin (errand_on line)) lines)
+asks_length : (lines : List BlockLine) → length (asks_on lines) ≡ length lines
+asks_length [] = refl
+asks_length (line ∷ lines) = ap suc (asks_length lines)
 
-pub block_short : (parts : List Part) (admin : Administration) (number : ℕ) (names : Option Connect) (lines : List BlockLine) → deeds_in parts ≡ deeds_of admin number names lines → length lines ≤ 200000
-    → length parts ≤ 200002
-block_short parts admin number names lines deeds short =
-    let count = ap length deeds in
-    let rest : List Deed = deeds_along (connected_by admin number names) lines in
-    let sum = length-append (connecting admin names) (rest ++ Closing ∷ []) in
-    let more = length-append rest (Closing ∷ []) in
-    let same = along_length (connected_by admin number names) lines in
-    omega (arith, count, sum, more, same, deeds_length parts, connect_few admin names, short)
+pub block_short : (parts : List Part) (names : Option Connect) (lines : List BlockLine) → AreFor (asks_of names lines) parts → length lines ≤ 200000 → length parts ≤ 200002
+block_short parts names lines are short =
+    let closing : List (Administration → Deed) = (λ admin. Closing) ∷ [] in
+    let count = for_length (asks_of names lines) parts are in
+    let sum = length-append (connecting names) (asks_on lines ++ closing) in
+    let more = length-append (asks_on lines) closing in
+    omega (arith, count, sum, more, asks_length lines, connect_few names, short)
 
-pub block_few : (test : Verdict → Bool) (s : State) (parts : List Part) (admin : Administration) (number : ℕ) (names : Option Connect) (lines : List BlockLine) → AreParts s parts → deeds_in parts ≡ deeds_of admin number names lines → length lines ≤ 200000
+pub block_few : (test : Verdict → Bool) (s : State) (parts : List Part) (names : Option Connect) (lines : List BlockLine) → AreParts s parts → AreFor (asks_of names lines) parts → length lines ≤ 200000
     → started test (joined (entries_of parts)) ≤ 200002
-block_few test s parts admin number names lines are deeds short =
-    omega (arith, block_short parts admin number names lines deeds short, parts_few test s parts are)
+block_few test s parts names lines are asked short = omega (arith, block_short parts names lines asked short, parts_few test s parts are)

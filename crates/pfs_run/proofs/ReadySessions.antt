@@ -2,9 +2,9 @@
 use Rattle.std.proofs.Common.{ℕ, ◌≡◌, ◌≤◌, ◌<◌, ◌+◌, ◌*◌, ◌==◌, Bool, true, false, cond, List, [], ◌∷◌, ◌++◌, length, Option, Some, None, IfSome, refl, ap, sym, ◌∙◌, subst, arith}
 use Rattle.std.specs.Prelude.{MatchOption}
 use Rattle.std.specs.List.{flat_map}
-use Rattle.pfs_admin.specs.AdministrationStates.{State as Administration}
+use Rattle.pfs_actor.specs.ActionAsks.{MayConnect}
 use Rattle.pfs_law_plain.specs.Spells.{Spell, parts_in, stints_of}
-use Rattle.pfs_blocks.specs.PlayedBlocks.{MayConnect, MayEnd}
+use Rattle.pfs_blocks.specs.PlayedBlocks.{MayEnd}
 use Rattle.pfs_blocks.proofs.RepeatKinds.{written_kinds}
 use Rattle.pfs_classes.specs.declared.setting.Setting.{Setting}
 use Rattle.pfs_law_script.specs.BlocksAhead.{done_before}
@@ -27,10 +27,10 @@ use Rattle.pfs_session.specs.SessionStates.{State, Book, fresh, nothing_held}
 use Rattle.pfs_run.specs.RunPositions.{GoesOn, Sits, depth_of, lines_at}
 use Rattle.pfs_run.proofs.BlockPlaces.{IsHere}
 
-pub record IsReady (setting : Setting) (phases : List Phase) (done : List PhasedBlock) (spells : List Spell) (admin : Administration) (block : Block) (book : Book) : Type 0 where
+pub record IsReady (setting : Setting) (phases : List Phase) (done : List PhasedBlock) (spells : List Spell) (block : Block) (book : Book) : Type 0 where
   pub state : book.state ≡ session_at setting (depth_of phases) spells block.session
   pub entries : book.journal.entries ≡ []
-  pub connects : IfSome block.connect (λ names. MayConnect book.state admin names)
+  pub connects : IfSome block.connect (λ names. MayConnect book.state setting names.user names.host)
   pub may : MayEnd book.state.opened.depth (kinds_at book.state) block.lines
   pub kinds : kinds_at book.state ≡ kinds_left (lines_at block.session done)
   pub lie : StagesLie (kinds_at book.state)
@@ -69,21 +69,20 @@ may_end before after block depth kinds body deep same =
       closed = λ quits. written_kinds depth kinds body.body may ∙ (ap (λ (k : List EventKind). kinds_after k body.body) same ∙ body.closed quits);
     }
 
-no_names : (connect : Option Connect) (s : State) (admin : Administration) (none : Type 0) → MatchOption connect none (λ names. ⊥) → IfSome connect (λ names. MayConnect s admin names)
-no_names None s admin none m = tt
-no_names (Some names) s admin none m = absurd m
+no_names : (setting : Setting) (connect : Option Connect) (s : State) (none : Type 0) → MatchOption connect none (λ names. ⊥) → IfSome connect (λ names. MayConnect s setting names.user names.host)
+no_names setting None s none m = tt
+no_names setting (Some names) s none m = absurd m
 
 -- names of a setting, for a session that begins
-may_begin : (setting : Setting) (admin : Administration) (number stack depth : ℕ) (connect : Option Connect) → admin.names ≡ setting.names → IfSome connect (λ names. (names.user < length setting.names) × (names.host < length setting.names))
-    → IfSome connect (λ names. MayConnect (fresh number stack depth) admin names)
-may_begin setting admin number stack depth None same named = tt
-may_begin setting admin number stack depth (Some names) same named = record {
+may_begin : (setting : Setting) (number stack depth : ℕ) (connect : Option Connect) → IfSome connect (λ names. (names.user < length setting.names) × (names.host < length setting.names))
+    → IfSome connect (λ names. MayConnect (fresh number stack depth) setting names.user names.host)
+may_begin setting number stack depth None named = tt
+may_begin setting number stack depth (Some names) named = record {
   first = refl;
   unplaced = refl;
   closed = refl;
-  free = refl;
-  user = subst (λ (n : List (List ℕ)). names.user < length n) (sym same) named.0;
-  host = subst (λ (n : List (List ℕ)). names.host < length n) (sym same) named.1;
+  user_named = named.0;
+  host_named = named.1;
 }
 
 -- where a session has had blocks, its block gives no names
@@ -95,11 +94,11 @@ none_left : (lines : List BlockLine) → lines ≡ [] → kinds_left lines ≡ [
 unfolding brackets_from
 none_left lines none = ap kinds_left none
 
-ready_by : (setting : Setting) (phases before : List Phase) (first : List Block) (block : Block) (others : List Block) (after : List Phase) (spells : List Spell) (admin : Administration) (book : Book) (seat : Option Book)
-    → IsHere setting phases before first block others after → admin.names ≡ setting.names → AreSpellsOf (done_before before first) spells
+ready_by : (setting : Setting) (phases before : List Phase) (first : List Block) (block : Block) (others : List Block) (after : List Phase) (spells : List Spell) (book : Book) (seat : Option Book)
+    → IsHere setting phases before first block others after → AreSpellsOf (done_before before first) spells
     → Sits setting phases (done_before before first) spells block.session seat → GoesOn seat block.session setting.limits.statement_stack (depth_of phases block.session) book
-    → IsReady setting phases (done_before before first) spells admin block book
-ready_by setting phases before first block others after spells admin book None here same are sits goes =
+    → IsReady setting phases (done_before before first) spells block book
+ready_by setting phases before first block others after spells book None here are sits goes =
     let done : List PhasedBlock = done_before before first in
     let begun : State = fresh block.session setting.limits.statement_stack (depth_of phases block.session) in
     let is : book.state ≡ begun = ap (λ (b : Book). b.state) goes in
@@ -111,7 +110,7 @@ ready_by setting phases before first block others after spells admin book None h
     record {
       state = is ∙ sym (no_spells block.session begun done spells are sits);
       entries = ap (λ (b : Book). b.journal.entries) goes;
-      connects = subst (λ (s : State). IfSome block.connect (λ names. MayConnect s admin names)) (sym is) (may_begin setting admin block.session setting.limits.statement_stack (depth_of phases block.session) block.connect same here.named);
+      connects = subst (λ (s : State). IfSome block.connect (λ names. MayConnect s setting names.user names.host)) (sym is) (may_begin setting block.session setting.limits.statement_stack (depth_of phases block.session) block.connect here.named);
       may = may_end before after block book.state.opened.depth (kinds_at book.state) here.playable.body (subst (λ n. lines_among (blocks_for block.session before) + length block.lines ≤ n) (sym deep) here.depth)
           (kinds ∙ ap (λ (bs : List Block). kinds_left (flat_map (λ (block : Block). written_out block.lines) bs)) here.own);
       kinds = kinds;
@@ -121,7 +120,7 @@ ready_by setting phases before first block others after spells admin book None h
       actions = omega (arith, actions);
       depth = deep;
     }
-ready_by setting phases before first block others after spells admin book (Some was) here same are sits goes =
+ready_by setting phases before first block others after spells book (Some was) here are sits goes =
     let done : List PhasedBlock = done_before before first in
     let is : book.state ≡ resumed was.state = ap (λ (b : Book). b.state) goes in
     let kinds : kinds_at book.state ≡ kinds_left (lines_at block.session done) = ap (λ (s : State). kinds_at s) is ∙ sits.kinds in
@@ -132,7 +131,7 @@ ready_by setting phases before first block others after spells admin book (Some 
     record {
       state = is ∙ sits.state;
       entries = ap (λ (b : Book). b.journal.entries) goes ∙ sits.entries;
-      connects = no_names block.connect book.state admin _ (goes_by block.connect (blocks_for block.session before) _ here.playable.first some);
+      connects = no_names setting block.connect book.state _ (goes_by block.connect (blocks_for block.session before) _ here.playable.first some);
       may = may_end before after block book.state.opened.depth (kinds_at book.state) here.playable.body (subst (λ n. lines_among (blocks_for block.session before) + length block.lines ≤ n) (sym deep) here.depth)
           (kinds ∙ ap (λ (bs : List Block). kinds_left (flat_map (λ (block : Block). written_out block.lines) bs)) here.own);
       kinds = kinds;
@@ -143,22 +142,22 @@ ready_by setting phases before first block others after spells admin book (Some 
       depth = deep;
     }
 
-pub ready : (setting : Setting) (phases before : List Phase) (first : List Block) (block : Block) (others : List Block) (after : List Phase) (spells : List Spell) (admin : Administration) (book : Book) (seat : Option Book)
-    → IsHere setting phases before first block others after → admin.names ≡ setting.names → AreSpellsOf (done_before before first) spells
+pub ready : (setting : Setting) (phases before : List Phase) (first : List Block) (block : Block) (others : List Block) (after : List Phase) (spells : List Spell) (book : Book) (seat : Option Book)
+    → IsHere setting phases before first block others after → AreSpellsOf (done_before before first) spells
     → Sits setting phases (done_before before first) spells block.session seat → GoesOn seat block.session setting.limits.statement_stack (depth_of phases block.session) book
-    → IsReady setting phases (done_before before first) spells admin block book
+    → IsReady setting phases (done_before before first) spells block book
 ready = ready_by
 
 -- and it goes on so with room in its journal
-pub ready_same : (setting : Setting) (phases : List Phase) (done : List PhasedBlock) (spells : List Spell) (admin : Administration) (block : Block) (book other : Book) → other.state ≡ book.state → other.journal.entries ≡ book.journal.entries
-    → IsReady setting phases done spells admin block book → IsReady setting phases done spells admin block other
-ready_same setting phases done spells admin block book other same entries r =
+pub ready_same : (setting : Setting) (phases : List Phase) (done : List PhasedBlock) (spells : List Spell) (block : Block) (book other : Book) → other.state ≡ book.state → other.journal.entries ≡ book.journal.entries
+    → IsReady setting phases done spells block book → IsReady setting phases done spells block other
+ready_same setting phases done spells block book other same entries r =
     let drawn = ap (λ (s : State). s.drawn) same in
     let actions = ap (λ (s : State). s.actions) same in
     record {
       state = same ∙ r.state;
       entries = entries ∙ r.entries;
-      connects = subst (λ (s : State). IfSome block.connect (λ names. MayConnect s admin names)) (sym same) r.connects;
+      connects = subst (λ (s : State). IfSome block.connect (λ names. MayConnect s setting names.user names.host)) (sym same) r.connects;
       may = subst (λ (s : State). MayEnd s.opened.depth (kinds_at s) block.lines) (sym same) r.may;
       kinds = ap (λ (s : State). kinds_at s) same ∙ r.kinds;
       lie = subst (λ (s : State). StagesLie (kinds_at s)) (sym same) r.lie;

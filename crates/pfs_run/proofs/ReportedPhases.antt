@@ -48,7 +48,7 @@ blocks_good law text setting phases before first after run script a =
     All-from_recursion IsBlock run.told
     (told_good setting (1 + length before) first a.current run.told a.blocks_told of
     (each_behind (IsReportable setting) a.earlier a.current
-    (law text setting phases (depth_of phases) (a.earlier ++ a.current) script a.course.are_spells a.course.answer a.course.folded)))
+    (law text setting phases (depth_of phases) (a.earlier ++ a.current) script a.course.are_spells a.answer a.course.folded)))
 
 pub tables_good : TablesLaw → (setting : Setting) (tables : List TableReport) (was now : Opening → List Call → Type 0) → All IsText setting.names
     → All (λ (digest : DigestText). IsText digest.text) setting.digests → All IsNamedTable setting.tables → AreTables setting tables was now → All IsTable tables

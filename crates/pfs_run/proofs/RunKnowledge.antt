@@ -3,14 +3,14 @@ use Rattle.std.proofs.Common.{ℕ, ◌≡◌, ◌≢◌, ◌≤◌, ◌<◌, ◌
 use Rattle.std.specs.List.{flat_map}
 use Rattle.std.proofs.lemmas.Bool.{eqb-true}
 use Rattle.std.proofs.lemmas.List.{get_or-set_same, get_or-set_other, length-set}
-use Rattle.pfs_admin.specs.AdministrationStates.{State as Administration}
+use Rattle.pfs_admin.specs.OpeningState.{opening_flags}
 use Rattle.pfs_law_plain.specs.Spells.{Doing, Spell, calls_of, doings_calls, parts_in}
 use Rattle.pfs_blocks.proofs.BlockQuits.{written_quit}
 use Rattle.pfs_blocks.specs.BlockNeeds.{Within, need_of_block}
 use Rattle.pfs_blocks.proofs.RepeatKinds.{written_kinds}
 use Rattle.pfs_classes.specs.declared.setting.Setting.{Setting}
 use Rattle.pfs_law_script.specs.BlocksAhead.{NoneIsOver, ahead_of, block_at, done_before}
-use Rattle.pfs_law_script.specs.Course.{IsCourse, PhasedBlock, behind_block, session_at}
+use Rattle.pfs_law_script.specs.Course.{IsCourse, PhasedBlock, session_at}
 use Rattle.pfs_law_script.specs.CourseSteps.{IsOneMore, spell_at}
 use Rattle.pfs_law_script.specs.ReportSpells.{AreTold}
 use Rattle.pfs_law_script.proofs.BlocksAhead.{done_block}
@@ -26,7 +26,9 @@ use Rattle.pfs_event.specs.declared.kind.EventKind.{EventKind}
 use Rattle.pfs_law_plain.specs.LineSteps.{kinds_at}
 use Rattle.pfs_journal.specs.declared.blocks.BlockReport.{BlockReport}
 use Rattle.pfs_journal.specs.declared.report.PhaseParts.{PhaseParts}
+use Rattle.pfs_levels.specs.PlainStore.{AllAnswer}
 use Rattle.pfs_levels.specs.Views.{Store}
+use Rattle.pfs_matching.specs.ObjectRules.{opening_objects}
 use Rattle.pfs_model.specs.Chains.{each_of, times}
 use Rattle.pfs_law_session.specs.JournalLaws.{over_behind}
 use Rattle.pfs_play.specs.Errands.{StagesLie, kinds_after}
@@ -80,13 +82,13 @@ other_seat seats number other book low least differ =
     absurd_by n m differ same = let yes = eq-eqb n m same in cc
 
 -- all sessions wait
-seats_along : (setting : Setting) (phases before : List Phase) (first : List Block) (block : Block) (spells : List Spell) (admin : Administration) (doings : List Doing) (seats new_seats : List (Option Book)) (waiting : Book)
-    → IsOneMore setting (change_in phases) (depth_of phases) (done_before before first) spells admin (block_at before block) doings → length seats ≡ 64 → 1 ≤ block.session → block.session ≤ 64
+seats_along : (setting : Setting) (phases before : List Phase) (first : List Block) (block : Block) (spells : List Spell) (doings : List Doing) (seats new_seats : List (Option Book)) (waiting : Book)
+    → IsOneMore setting (change_in phases) (depth_of phases) (done_before before first) spells (block_at before block) doings → length seats ≡ 64 → 1 ≤ block.session → block.session ≤ 64
     → ((session : ℕ) → 1 ≤ session → session ≤ 64 → Sits setting phases (done_before before first) spells session (seat_of seats session))
     → Sits setting phases (done_before before (first ++ block ∷ [])) (spells ++ spell_at (block_at before block) doings ∷ []) block.session (Some waiting)
     → new_seats ≡ slice_set (slice_set seats (block.session - 1) None) (block.session - 1) (Some waiting)
     → (session : ℕ) → 1 ≤ session → session ≤ 64 → Sits setting phases (done_before before (first ++ block ∷ [])) (spells ++ spell_at (block_at before block) doings ∷ []) session (seat_of new_seats session)
-seats_along setting phases before first block spells admin doings seats new_seats waiting more wide low high old own is = λ session least most. at session least most (block.session == session) refl where
+seats_along setting phases before first block spells doings seats new_seats waiting more wide low high old own is = λ session least most. at session least most (block.session == session) refl where
   at : (session : ℕ) → 1 ≤ session → session ≤ 64 → (b : Bool) → (block.session == session) ≡ b → Sits setting phases (done_before before (first ++ block ∷ [])) (spells ++ spell_at (block_at before block) doings ∷ []) session (seat_of new_seats session)
   at session least most true e =
       subst (λ n. Sits setting phases (done_before before (first ++ block ∷ [])) (spells ++ spell_at (block_at before block) doings ∷ []) n (seat_of new_seats n)) (eqb-true block.session session e)
@@ -95,7 +97,7 @@ seats_along setting phases before first block spells admin doings seats new_seat
   at session least most false e =
       subst (λ (seat : Option Book). Sits setting phases (done_before before (first ++ block ∷ [])) (spells ++ spell_at (block_at before block) doings ∷ []) session seat)
       (sym (ap (λ (z : List (Option Book)). seat_of z session) is ∙ other_seat seats block.session session waiting low least e))
-      (others_by setting phases before first block spells admin doings session (seat_of seats session) more e (old session least most))
+      (others_by setting phases before first block spells doings session (seat_of seats session) more e (old session least most))
 
 -- phases that ended have lower numbers
 lower : (most next : ℕ) (reports : List PhaseParts) → next ≡ 1 + most → AreFinal (λ (report : PhaseParts). report.number ≤ most) reports → AreFinal (λ (report : PhaseParts). report.number < next) reports
@@ -104,18 +106,18 @@ lower most next (report ∷ reports) is low = (below report.number low.0, lower 
   below : (n : ℕ) → n ≤ most → n < next
   below n h = omega (arith, is, h)
 
-pub next_along : (setting : Setting) (phases before : List Phase) (first : List Block) (block : Block) (others : List Block) (after : List Phase) (run : Standing) (now : Store) (new_admin : Administration) (new_seats : List (Option Book)) (new_lost : LostEvents)
+pub next_along : (setting : Setting) (phases before : List Phase) (first : List Block) (block : Block) (others : List Block) (after : List Phase) (run : Standing) (now : Store) (new_seats : List (Option Book)) (new_lost : LostEvents)
     (new_told : List BlockReport) (report : BlockReport) (book paused waiting : Book) → IsHere setting phases before first block others after
     → (along : IsAlong setting phases (position before first (block_at before block ∷ ahead_of before others after)) run)
-    → IsReady setting phases (done_before before first) (along.earlier ++ along.current) run.admin block book
-    → IsDone setting phases before first block others after (along.earlier ++ along.current) run.admin new_admin book paused report.answers along.start along.calls now.reached
+    → IsReady setting phases (done_before before first) (along.earlier ++ along.current) block book
+    → IsDone setting phases before first block others after (along.earlier ++ along.current) book paused report.answers along.start along.calls now.reached
     → waiting.state ≡ paused.state → waiting.journal.entries ≡ [] → paused.state.held ≡ nothing_held
     → kinds_at paused.state ≡ kinds_after (kinds_at book.state) (written_out block.lines) → StagesLie (kinds_at paused.state)
-    → Within (need_of_block block) book paused run.admin new_admin run.store now → new_seats ≡ slice_set (slice_set run.seats (block.session - 1) None) (block.session - 1) (Some waiting)
+    → Within (need_of_block block) book paused run.store now → new_seats ≡ slice_set (slice_set run.seats (block.session - 1) None) (block.session - 1) (Some waiting)
     → new_lost.digests ≡ run.lost.digests + lost_digests paused.journal.entries → new_lost.statements ≡ run.lost.statements + lost_statements paused.journal.entries → new_lost.waits ≡ run.lost.waits + lost_waits paused.journal.entries
     → report.session ≡ block.session → report.entries ≡ paused.journal.entries → new_told ≡ run.told ++ report ∷ []
-    → IsAlong setting phases (position before (first ++ block ∷ []) (ahead_of before others after)) (record { store = now; admin = new_admin; seats = new_seats; lost = new_lost; ended = run.ended; told = new_told })
-next_along setting phases before first block others after run now new_admin new_seats new_lost new_told report book paused waiting
+    → IsAlong setting phases (position before (first ++ block ∷ []) (ahead_of before others after)) (record { store = now; seats = new_seats; lost = new_lost; ended = run.ended; told = new_told })
+next_along setting phases before first block others after run now new_seats new_lost new_told report book paused waiting
     here along ready done same empty free kinds lie within seats_are digests statements waits reported entries told_is =
     let spells : List Spell = along.earlier ++ along.current in
     let spell : Spell = spell_at (block_at before block) done.doings in
@@ -128,17 +130,17 @@ next_along setting phases before first block others after run now new_admin new_
     let left_is : kinds_after (kinds_at book.state) (written_out block.lines) ≡ kinds_left (lines_at block.session (done_before before first) ++ written_out block.lines) =
     left_open before after block (depth_of phases block.session) (kinds_at book.state) here.playable.body here.depth kinds_are
     ∙ ap (λ (bs : List Block). kinds_left (flat_map (λ (block : Block). written_out block.lines) bs ++ written_out block.lines)) (sym here.own) in
-    let course : IsCourse setting (change_in phases) (depth_of phases) (done_before before (first ++ block ∷ [])) (along.earlier ++ (along.current ++ spell ∷ [])) new_admin =
-    subst (λ (ss : List Spell). IsCourse setting (change_in phases) (depth_of phases) (done_before before (first ++ block ∷ [])) ss new_admin) all
-    (subst (λ (a : Administration). IsCourse setting (change_in phases) (depth_of phases) (done_before before (first ++ block ∷ [])) (spells ++ spell ∷ []) a) (sym done.admin_is)
-    (subst (λ (d : List PhasedBlock). IsCourse setting (change_in phases) (depth_of phases) d (spells ++ spell ∷ []) (behind_block run.admin block (over_behind false (parts_in done.doings)))) (sym (done_block before first block)) done.more.course)) in
-    let own = own_waits setting phases before first block others after spells run.admin done.doings book paused waiting here ready done.more done.state same empty free kinds lie within.drawn within.depth (omega (arith, within.actions)) left_is in
-    let sits = seats_along setting phases before first block spells run.admin done.doings run.seats new_seats waiting done.more along.wide low high along.seated own seats_are in
+    let course : IsCourse setting (change_in phases) (depth_of phases) (done_before before (first ++ block ∷ [])) (along.earlier ++ (along.current ++ spell ∷ [])) =
+    subst (λ (ss : List Spell). IsCourse setting (change_in phases) (depth_of phases) (done_before before (first ++ block ∷ [])) ss) all
+    (subst (λ (d : List PhasedBlock). IsCourse setting (change_in phases) (depth_of phases) d (spells ++ spell ∷ [])) (sym (done_block before first block)) done.more.course) in
+    let own = own_waits setting phases before first block others after spells done.doings book paused waiting here ready done.more done.state same empty free kinds lie within.drawn within.depth (omega (arith, within.actions)) left_is in
+    let sits = seats_along setting phases before first block spells done.doings run.seats new_seats waiting done.more along.wide low high along.seated own seats_are in
     record {
       limits = along.limits;
       earlier = along.earlier;
       current = along.current ++ spell ∷ [];
       course = course;
+      answer = subst (λ (ss : List Spell). AllAnswer (opening_flags setting opening_objects) (calls_of ss)) all done.answer;
       none_over = subst (λ (ss : List Spell). NoneIsOver ss (ahead_of before others after)) all done.ahead;
       phases_told = along.phases_told;
       blocks_told = subst (λ (reports : List BlockReport). AreTold setting (1 + length before) (first ++ block ∷ []) (along.current ++ spell ∷ []) reports) (sym told_is)
@@ -151,11 +153,8 @@ next_along setting phases before first block others after run now new_admin new_
       calls = doings_calls done.doings ++ along.calls;
       led = done.led;
       alike = subst (λ (ss : List Spell). LeadAlike (doings_calls done.doings ++ along.calls) (calls_of ss)) all (leads_more spells spell along.calls along.alike);
-      idle = λ row. within.used.hand row ∙ along.idle row;
-      lent = within.used.words;
       spare = omega (arith, count, short, here.rare, within.used.left, along.spare);
       tickets = omega (arith, count, short, within.used.draws, along.tickets);
-      acted = omega (arith, count, here.rare, within.counted, along.acted);
       wide = ap length seats_are ∙ (length-set (slice_set run.seats (block.session - 1) None) (block.session - 1) (Some waiting) ∙ (length-set run.seats (block.session - 1) None ∙ along.wide));
       seated = subst (λ (ss : List Spell). (session : ℕ) → 1 ≤ session → session ≤ 64 → Sits setting phases (done_before before (first ++ block ∷ [])) ss session (seat_of new_seats session)) all sits;
       digests = subst (λ (ss : List Spell). new_lost.digests ≡ times is_digest_lost (entries_of ss)) all (digests_more spells spell (session_at setting (depth_of phases) spells block.session) paused.journal.entries run.lost.digests new_lost.digests done.are_parts done.entries along.digests digests);

@@ -2,6 +2,8 @@
 use Rattle.std.proofs.Common.{ℕ, suc, ◌≡◌, ◌≤◌, ◌+◌, ◌*◌, ◌^◌, List, [], ◌∷◌, ◌++◌, length, append-nil, length-append, Option, refl, ap, sym, ◌∙◌, subst, arith}
 use Rattle.std.specs.List.{flat_map}
 use Rattle.std.proofs.lemmas.List.Elements.{All-push}
+use Rattle.pfs_admin.specs.AdministrationStates.{State as Administration}
+use Rattle.pfs_admin.specs.Fold.{state_of}
 use Rattle.pfs_admin.specs.OpeningState.{opening_flags}
 use Rattle.pfs_law_plain.specs.Spells.{Spell, calls_of}
 use Rattle.pfs_classes.specs.declared.setting.Setting.{Setting}
@@ -21,13 +23,16 @@ use Rattle.pfs_journal.specs.Reports.{IsPhase}
 use Rattle.pfs_journal.specs.declared.blocks.BlockReport.{BlockReport}
 use Rattle.pfs_journal.specs.declared.report.PhaseParts.{PhaseParts}
 use Rattle.pfs_levels.specs.Calls.{Call, Opening}
-use Rattle.pfs_levels.specs.PlainStore.{AllAnswer}
+use Rattle.pfs_board.specs.declared.view.Label.{Label}
+use Rattle.pfs_containers.specs.ContainerState.{lost_in}
+use Rattle.pfs_containers.specs.declared.containers.Lost.{Lost}
+use Rattle.pfs_levels.specs.PlainStore.{AllAnswer, labels_after}
 use Rattle.pfs_levels.specs.Views.{Store, Same}
 use Rattle.pfs_matching.specs.ObjectRules.{opening_objects}
 use Rattle.pfs_model.specs.Chains.{Each, each_of, times}
 use Rattle.pfs_reader.specs.Readings.{calls_of as calls_of_readings}
 use Rattle.pfs_law_plain.proofs.ReadCalls.{LeadAlike}
-use Rattle.pfs_law_plain.specs.RunRules.{entries_of}
+use Rattle.pfs_law_plain.specs.RunRules.{entries_of, labels_of}
 use Rattle.pfs_runs.specs.PhaseFinals.{is_digest_lost, is_lost_nested, is_lost_locker, verdict_at}
 use Rattle.pfs_runs.specs.ScriptLines.{change_in}
 use Rattle.pfs_runs.specs.Runs.{AreFinal}
@@ -81,18 +86,19 @@ numbers_more most now (r ∷ rs) report low one all = (within r.number all.0, nu
   within : (n : ℕ) → n ≤ most → n ≤ now
   within n h = omega (arith, h, low)
 
+-- of containers it was lost what the counters say
+abbrev pub lost_of : LostCounters → Lost
+lost_of counters = record { threads = counters.threads; accounts = counters.accounts; users = counters.users; hosts = counters.hosts }
+
 -- what a phase's end leaves: the store, read and no more, and the report
-pub record IsEndOf (setting : Setting) (run : Standing) (now : Store) (report : PhaseParts) : Type 0 where
+pub record IsEndOf (setting : Setting) (phases : List Phase) (run : Standing) (now : Store) (report : PhaseParts) : Type 0 where
   pub answers : (start : Opening) (calls : List Call) → now.reached start calls → AllAnswer start.flags calls
   pub kept : Same run.store now
   pub number : report.number ≡ length run.ended + 1
   pub blocks : report.blocks ≡ run.told
   pub tables : AreTables setting report.tables run.store.reached now.reached
   pub counters_of : LostCounters
-  pub threads : counters_of.threads ≡ run.admin.kept.now.lost_threads
-  pub accounts : counters_of.accounts ≡ run.admin.kept.now.lost_accounts
-  pub users : counters_of.users ≡ run.admin.kept.now.lost_users
-  pub hosts : counters_of.hosts ≡ run.admin.kept.now.lost_hosts
+  pub containers : (start : Opening) (calls : List Call) → now.reached start calls → lost_in (state_of setting (change_in phases) (labels_after calls)).kept.now ≡ lost_of counters_of
   pub digests : counters_of.digests ≡ run.lost.digests
   pub statements : counters_of.statements ≡ run.lost.statements
   pub waits : counters_of.waits ≡ run.lost.waits
@@ -107,7 +113,7 @@ abbrev pub as_phase : List Block → Phase
 as_phase blocks = record { blocks = blocks }
 
 phase_ended : (setting : Setting) (phases before : List Phase) (first : List Block) (after : List Phase) (run : Standing) (now : Store) (report : PhaseParts) → IsAlong setting phases (position before first (ahead_of before [] after)) run
-    → IsEndOf setting run now report → IsAlong setting phases (position (before ++ as_phase first ∷ []) [] (numbered (1 + length (before ++ as_phase first ∷ [])) after)) (behind run now (run.ended ++ report ∷ []) [])
+    → IsEndOf setting phases run now report → IsAlong setting phases (position (before ++ as_phase first ∷ []) [] (numbered (1 + length (before ++ as_phase first ∷ [])) after)) (behind run now (run.ended ++ report ∷ []) [])
 phase_ended setting phases before first after run now report a e =
     let spells : List Spell = a.earlier ++ a.current in
     let phase : Phase = as_phase first in
@@ -122,18 +128,21 @@ phase_ended setting phases before first after run now report a e =
     let low : AreUpTo report.number spells =
     up_to_then report.number a.earlier a.current (phases_up_to setting report.number 1 before run.ended a.earlier (omega (arith, number)) a.phases_told)
     (told_up_to setting report.number (1 + length before) first a.current run.told (omega (arith, number)) a.blocks_told) in
-    let counted : AreCounted run.admin.kept.now spells e.counters_of = record {
-      threads = e.threads;
-      accounts = e.accounts;
-      users = e.users;
-      hosts = e.hosts;
+    let admin : Administration = state_of setting (change_in phases) (labels_of spells) in
+    let still : LeadAlike (read ++ a.calls) (calls_of spells) = leads_still (all_readings e.tables.reads) a.calls (calls_of spells) a.alike in
+    let lost : lost_in admin.kept.now ≡ lost_of e.counters_of = ap (λ (z : List Label). lost_in (state_of setting (change_in phases) z).kept.now) (sym still.labels) ∙ e.containers a.start (read ++ a.calls) led in
+    let counted : AreCounted admin.kept.now spells e.counters_of = record {
+      threads = sym (ap (λ (z : Lost). z.threads) lost);
+      accounts = sym (ap (λ (z : Lost). z.accounts) lost);
+      users = sym (ap (λ (z : Lost). z.users) lost);
+      hosts = sym (ap (λ (z : Lost). z.hosts) lost);
       digests = e.digests ∙ a.digests;
       statements = e.statements ∙ a.statements;
       waits = e.waits ∙ a.waits;
     } in
     let answers : AllAnswer (opening_flags setting opening_objects) (read ++ a.calls) = subst (λ z. AllAnswer z (read ++ a.calls)) a.opens (e.answers a.start (read ++ a.calls) led) in
     let is_end : IsEnd setting (change_in phases) spells a.calls report =
-    end_of setting (change_in phases) spells a.calls report run.store.reached now.reached run.admin e.counters_of a.alike e.tables answers a.course.admin_is counted e.lost_are in
+    end_of setting (change_in phases) spells a.calls report run.store.reached now.reached admin e.counters_of a.alike e.tables answers refl counted e.lost_are in
     let finals : AreFinal (HasEnded setting (change_in phases) spells) (run.ended ++ report ∷ []) =
     ended_last setting (change_in phases) spells run.ended report a.finals (ended_now setting (change_in phases) spells a.calls report low is_end) in
     let told_now : AreTold setting report.number first a.current report.blocks =
@@ -142,8 +151,9 @@ phase_ended setting phases before first after run now report a e =
       limits = a.limits;
       earlier = spells;
       current = [];
-      course = subst (λ z. IsCourse setting (change_in phases) (depth_of phases) (done_before all []) z run.admin) same
-          (subst (λ z. IsCourse setting (change_in phases) (depth_of phases) z spells run.admin) further a.course);
+      course = subst (λ z. IsCourse setting (change_in phases) (depth_of phases) (done_before all []) z) same
+          (subst (λ z. IsCourse setting (change_in phases) (depth_of phases) z spells) further a.course);
+      answer = subst (λ z. AllAnswer (opening_flags setting opening_objects) (calls_of z)) same a.answer;
       none_over = subst (λ z. NoneIsOver z (numbered (1 + length all) after)) same
           (subst (λ n. NoneIsOver spells (numbered n after)) (one_further (length before) (length all) long) a.none_over);
       phases_told = phases_more setting 1 before run.ended a.earlier phase report a.current a.phases_told number told_now;
@@ -155,12 +165,9 @@ phase_ended setting phases before first after run now report a e =
       opens = a.opens;
       calls = read ++ a.calls;
       led = led;
-      alike = subst (λ z. LeadAlike (read ++ a.calls) (calls_of z)) same (leads_still (all_readings e.tables.reads) a.calls (calls_of spells) a.alike);
-      idle = λ row. e.kept.hand row ∙ a.idle row;
-      lent = e.kept.words ∙ a.lent;
+      alike = subst (λ z. LeadAlike (read ++ a.calls) (calls_of z)) same still;
       spare = subst (λ z. 2 ^ 47 ≤ now.left + 340000000 * length z) further (subst (λ z. 2 ^ 47 ≤ z + 340000000 * length done) (sym e.kept.left) a.spare);
       tickets = subst (λ z. 2 ^ 47 ≤ now.draws + 400000 * length z) further (subst (λ z. 2 ^ 47 ≤ z + 400000 * length done) (sym e.kept.draws) a.tickets);
-      acted = subst (λ z. run.admin.actions ≤ 16668 * length z) further a.acted;
       wide = a.wide;
       seated = λ session one many. subst (λ z. Sits setting phases (done_before all []) z session (seat_of run.seats session)) same
           (subst (λ z. Sits setting phases z spells session (seat_of run.seats session)) further (a.seated session one many));
@@ -176,7 +183,7 @@ phase_ended setting phases before first after run now report a e =
 
 -- with that report behind those so far, and no block told
 pub ended_along : (setting : Setting) (phases before : List Phase) (first : List Block) (after : List Phase) (run : Standing) (now : Store) (ended_now : List PhaseParts) (told_now : List BlockReport) (report : PhaseParts)
-    → IsAlong setting phases (position before first (ahead_of before [] after)) run → IsEndOf setting run now report → ended_now ≡ run.ended ++ report ∷ [] → told_now ≡ []
+    → IsAlong setting phases (position before first (ahead_of before [] after)) run → IsEndOf setting phases run now report → ended_now ≡ run.ended ++ report ∷ [] → told_now ≡ []
     → IsAlong setting phases (position (before ++ as_phase first ∷ []) [] (numbered (1 + length (before ++ as_phase first ∷ [])) after)) (behind run now ended_now told_now)
 ended_along setting phases before first after run now ended_now told_now report a e reports none =
     let along : (reports : List PhaseParts) → List BlockReport → Type 0 = λ reports told. IsAlong setting phases (position (before ++ as_phase first ∷ []) []

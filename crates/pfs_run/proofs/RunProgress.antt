@@ -3,7 +3,10 @@ use Rattle.std.proofs.Common.{ℕ, suc, ◌≡◌, ◌<◌, ◌≤◌, ◌+◌, 
 use Rattle.std.proofs.Math.ListN.{drop_of_length-le}
 use Rattle.std.proofs.Math.Seq.{drop-cons}
 use Rattle.std.proofs.lemmas.List.{take_all, take_more, take-append-drop}
-use Rattle.pfs_law_plain.specs.Spells.{Spell}
+use Rattle.pfs_admin.specs.OpeningState.{opening_flags}
+use Rattle.pfs_law_plain.specs.Spells.{Spell, calls_of}
+use Rattle.pfs_levels.specs.PlainStore.{AllAnswer}
+use Rattle.pfs_matching.specs.ObjectRules.{opening_objects}
 use Rattle.pfs_classes.specs.declared.setting.Setting.{Setting}
 use Rattle.pfs_law_script.proofs.BlocksAhead.{done_whole}
 use Rattle.pfs_law_script.specs.BlocksAhead.{ahead_of, block_at}
@@ -71,12 +74,13 @@ run_is whole run all_end setting phases report at_end a format is =
     let change = change_in phases in
     let spells : List Spell = a.earlier in
     let same : a.earlier ++ a.current ≡ spells = ap (λ z. a.earlier ++ z) (none_told setting (1 + length phases) a.current at_end.told a.blocks_told) ∙ append-nil a.earlier in
-    let course : IsCourse setting change (depth_of phases) (numbered 1 phases) spells at_end.admin =
-    subst (λ z. IsCourse setting change (depth_of phases) z spells at_end.admin) (done_whole phases)
-    (subst (λ z. IsCourse setting change (depth_of phases) (numbered 1 phases ++ []) z at_end.admin) same a.course) in
+    let course : IsCourse setting change (depth_of phases) (numbered 1 phases) spells =
+    subst (λ z. IsCourse setting change (depth_of phases) z spells) (done_whole phases)
+    (subst (λ z. IsCourse setting change (depth_of phases) (numbered 1 phases ++ []) z) same a.course) in
+    let answer : AllAnswer (opening_flags setting opening_objects) (calls_of spells) = subst (λ z. AllAnswer (opening_flags setting opening_objects) (calls_of z)) same a.answer in
     let finals : AreFinal (HasEnded setting change spells) report.phases =
     subst (AreFinal (HasEnded setting change spells)) (sym is) (subst (λ z. AreFinal (HasEnded setting change z) at_end.ended) same a.finals) in
     let but : IsRunButFinals setting phases report spells =
-    whole setting phases report (depth_of phases) spells at_end.admin course (subst (λ z. ArePhasesTold setting 1 phases z spells) (sym is) a.phases_told) format in
+    whole setting phases report (depth_of phases) spells course answer (subst (λ z. ArePhasesTold setting 1 phases z spells) (sym is) a.phases_told) format in
     run setting phases report spells but
-    (all_end setting change (facts_in phases) (depth_of phases) spells report.phases course.are_spells course.answer finals)
+    (all_end setting change (facts_in phases) (depth_of phases) spells report.phases course.are_spells answer finals)

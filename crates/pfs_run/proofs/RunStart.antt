@@ -3,12 +3,10 @@ use Rattle.std.proofs.Common.{ℕ, ◌≡◌, ◌≤◌, ◌-◌, ◌^◌, List,
 use Rattle.std.specs.List.{All}
 use Rattle.std.proofs.lemmas.List.Elements.{All-nil}
 use Rattle.std.proofs.lemmas.List.{get_or-replicate, length-replicate}
-use Rattle.pfs_admin.specs.Fold.{state_from, state_of}
-use Rattle.pfs_admin.specs.OpeningState.{opening_flags, opened}
-use Rattle.pfs_admin.specs.AdministrationStates.{State as Administration}
+use Rattle.pfs_admin.specs.OpeningState.{opening_flags}
 use Rattle.pfs_classes.specs.declared.setting.Setting.{Setting}
 use Rattle.pfs_law_script.proofs.BlocksAhead.{none_yet}
-use Rattle.pfs_law_script.specs.Course.{IsCourse, numbered}
+use Rattle.pfs_law_script.specs.Course.{numbered}
 use Rattle.pfs_law_script.specs.CourseSteps.{IsBegun}
 use Rattle.pfs_law_script.specs.ReportSpells.{ArePhasesTold, AreTold}
 use Rattle.pfs_law_report.proofs.JournalLosses.{started_in}
@@ -17,7 +15,6 @@ use Rattle.pfs_law_report.specs.PhaseEnds.{HasEnded}
 use Rattle.pfs_journal.specs.Reports.{IsPhase}
 use Rattle.pfs_journal.specs.declared.report.PhaseParts.{PhaseParts}
 use Rattle.pfs_levels.specs.Calls.{Opening, Start}
-use Rattle.pfs_levels.specs.PlainStore.{word}
 use Rattle.pfs_matching.specs.ObjectRules.{opening_objects}
 use Rattle.pfs_rows.specs.Limits.{AreInRange}
 use Rattle.pfs_law_plain.proofs.ReadCalls.{alike_none}
@@ -28,11 +25,6 @@ use Rattle.pfs_script.specs.declared.blocks.Phase.{Phase}
 use Rattle.pfs_session.specs.SessionStates.{Book}
 use Rattle.pfs_run.specs.RunPositions.{IsAlong, Sits, Standing, depth_of, position, seat_of}
 
--- the fold of no labels is the opening
-nothing_done : (setting : Setting) (phases : List Phase) → state_of setting (change_in phases) [] ≡ opened setting
-unfolding state_from
-nothing_done setting phases = refl
-
 -- no seat is taken
 empty_seat : (session : ℕ) (seats : List (Option Book)) → seats ≡ replicate 64 None → 1 ≤ session → session ≤ 64 → seat_of seats session ≡ None
 empty_seat session seats e low high = ap (λ z. seat_of z session) e ∙ get_or-replicate 64 (session - 1) None None (omega arith)
@@ -42,9 +34,9 @@ sits_empty setting phases session seat e = subst (Sits setting phases [] [] sess
 
 pub begun : (setting : Setting) (phases : List Phase) (run : Standing) → AreInRange setting.limits
     → IsBegun setting (change_in phases) (depth_of phases) → ((start : Opening) → start.flags ≡ opening_flags setting opening_objects → run.store.reached start [])
-    → ((row : ℕ) → run.store.hand row ≡ None) → run.store.left ≡ 2 ^ 47 → run.store.draws ≡ 2 ^ 47 → run.store.words ≡ Some (map (word 0) (opening_flags setting opening_objects)) → run.admin ≡ opened setting → run.seats ≡ replicate 64 None
+    → run.store.left ≡ 2 ^ 47 → run.store.draws ≡ 2 ^ 47 → run.seats ≡ replicate 64 None
     → run.lost.digests ≡ 0 → run.lost.statements ≡ 0 → run.lost.waits ≡ 0 → run.ended ≡ [] → run.told ≡ [] → IsAlong setting phases (position [] [] (numbered 1 phases)) run
-begun setting phases run limits is leads idle all every lent is_open empty digests statements waits none nothing =
+begun setting phases run limits is leads all every empty digests statements waits none nothing =
     let nowhere : Start = record {
       table = record { words = 0; slots = 0; views_name = 0; atom = 0; block = 0; offset = 0; slot_names = [] };
       number = 0;
@@ -56,7 +48,8 @@ begun setting phases run limits is leads idle all every lent is_open empty diges
       limits = limits;
       earlier = [];
       current = [];
-      course = subst (IsCourse setting (change_in phases) (depth_of phases) [] []) (nothing_done setting phases ∙ sym is_open) is.course;
+      course = is.course;
+      answer = tt;
       none_over = none_yet (numbered 1 phases);
       phases_told = subst (λ z. ArePhasesTold setting 1 [] z []) (sym none) refl;
       blocks_told = subst (AreTold setting 1 [] []) (sym nothing) tt;
@@ -68,11 +61,8 @@ begun setting phases run limits is leads idle all every lent is_open empty diges
       calls = [];
       led = leads start refl;
       alike = alike_none [];
-      idle = idle;
-      lent = lent ∙ ap (λ (z : Administration). Some z.words) (sym is_open);
       spare = omega (arith, all);
       tickets = omega (arith, every);
-      acted = omega (arith, ap (λ (z : Administration). z.actions) is_open);
       wide = ap length empty ∙ length-replicate {A = Option Book} 64 None;
       seated = λ session low high. sits_empty setting phases session (seat_of run.seats session) (empty_seat session run.seats empty low high);
       digests = digests ∙ sym (lost_in []);

@@ -2,14 +2,16 @@
 use Rattle.std.proofs.Common.{ℕ, ◌≡◌, ◌≤◌, ◌+◌, ◌==◌, true, false, cond, List, [], ◌∷◌, ◌++◌, length, Option, Some, None, refl, ap, sym, ◌∙◌, subst, length-append, append-nil, eq-eqb, arith}
 use Rattle.std.specs.List.{flat_map}
 use Rattle.std.proofs.lemmas.Grind.{flat_map-append}
-use Rattle.pfs_play.specs.StoreDeeds.{AreLabelled, HaveLed}
+use Rattle.pfs_actor.specs.ActorDeeds.{AreLabelled, HaveLed}
+use Rattle.pfs_admin.specs.declared.changes.Change.{Change}
+use Rattle.pfs_board.specs.declared.view.Label.{Label}
 use Rattle.pfs_admin.specs.OpeningState.{opening_flags}
-use Rattle.pfs_admin.specs.AdministrationStates.{State as Administration}
 use Rattle.pfs_law_plain.specs.Spells.{Doing, Spell, calls_of, doings_calls, parts_in}
 use Rattle.pfs_blocks.specs.PlayedBlocks.{HasPlayed}
 use Rattle.pfs_classes.specs.declared.setting.Setting.{Setting}
 use Rattle.pfs_law_script.specs.BlocksAhead.{NoneIsOver, ahead_of, block_at, done_before}
-use Rattle.pfs_law_script.specs.Course.{IsCourse, PhasedBlock, behind_block, connected_by, deeds_in, deeds_of, ended_by, own_blocks, session_at}
+use Rattle.pfs_law_plain.proofs.NextSpell.{calls_more}
+use Rattle.pfs_law_script.specs.Course.{IsCourse, PhasedBlock, asks_of, own_blocks, session_at}
 use Rattle.pfs_law_script.specs.CourseSteps.{IsOneMore, IsPlayed, spell_at}
 use Rattle.pfs_law_script.proofs.BlocksAhead.{done_block}
 use Rattle.pfs_law_script.proofs.BlockChanges.{own_more}
@@ -25,7 +27,7 @@ use Rattle.pfs_model.specs.JournalCuts.{joined}
 use Rattle.pfs_law_session.specs.Deeds.{Part}
 use Rattle.pfs_law_session.specs.JournalLaws.{AreParts, MayDoAll, entries_of, over_behind, state_behind}
 use Rattle.pfs_law_session.specs.Stints.{resumed}
-use Rattle.pfs_play.specs.Errands.{StagesLie, actions_on, admin_after, kinds_after}
+use Rattle.pfs_play.specs.Errands.{AreFor, StagesLie, actions_on, kinds_after}
 use Rattle.pfs_law_script.specs.PlayableBlocks.{kinds_left}
 use Rattle.pfs_law_plain.proofs.ReadCalls.{LeadAlike, answers_more}
 use Rattle.pfs_runs.specs.SelectAnswers.{Answer, AreAnswers, selections_in}
@@ -42,11 +44,11 @@ use Rattle.pfs_run.proofs.BlockPlaces.{IsHere}
 use Rattle.pfs_run.proofs.ReadySessions.{IsReady}
 
 -- what the session did at its block, as the course has it
-pub record IsDone (setting : Setting) (phases before : List Phase) (first : List Block) (block : Block) (others : List Block) (after : List Phase) (spells : List Spell) (admin new_admin : Administration) (book paused : Book) (answers : List Answer) (start : Opening) (calls : List Call)
+pub record IsDone (setting : Setting) (phases before : List Phase) (first : List Block) (block : Block) (others : List Block) (after : List Phase) (spells : List Spell) (book paused : Book) (answers : List Answer) (start : Opening) (calls : List Call)
     (now : Opening → List Call → Type 0) : Type 0 where
   pub doings : List Doing
-  pub more : IsOneMore setting (change_in phases) (depth_of phases) (done_before before first) spells admin (block_at before block) doings
-  pub admin_is : new_admin ≡ behind_block admin block (over_behind false (parts_in doings))
+  pub more : IsOneMore setting (change_in phases) (depth_of phases) (done_before before first) spells (block_at before block) doings
+  pub answer : AllAnswer (opening_flags setting opening_objects) (calls_of (spells ++ spell_at (block_at before block) doings ∷ []))
   pub state : paused.state ≡ state_behind (session_at setting (depth_of phases) spells block.session) (parts_in doings)
   pub entries : paused.journal.entries ≡ joined (entries_of (parts_in doings))
   pub led : now start (doings_calls doings ++ calls)
@@ -57,69 +59,74 @@ pub record IsDone (setting : Setting) (phases before : List Phase) (first : List
   pub waits : lost_waits paused.journal.entries ≤ 200002
   pub answered : AreAnswers (Answers setting) (selections_in block) (parts_in doings) answers
 
-pub is_done : (setting : Setting) (phases before : List Phase) (first : List Block) (block : Block) (others : List Block) (after : List Phase) (spells : List Spell) (admin new_admin : Administration) (book paused : Book) (answers : List Answer) (start : Opening) (calls : List Call)
-    (was now : Opening → List Call → Type 0) → IsHere setting phases before first block others after → IsCourse setting (change_in phases) (depth_of phases) (done_before before first) spells admin
-    → NoneIsOver spells (block_at before block ∷ ahead_of before others after) → book.state ≡ session_at setting (depth_of phases) spells block.session → book.journal.entries ≡ [] → HasPlayed setting block admin new_admin book paused [] answers was now
-    → start.flags ≡ opening_flags setting opening_objects → was start calls → LeadAlike calls (calls_of spells) → ((more : List Call) → now start more → AllAnswer start.flags more) → length (written_out block.lines) ≤ 200000
-    → IsDone setting phases before first block others after spells admin new_admin book paused answers start calls now
-is_done setting phases before first block others after spells admin new_admin book paused answers start calls was now here course none is empty played opens led alike plain short =
+pub is_done : (setting : Setting) (phases before : List Phase) (first : List Block) (block : Block) (others : List Block) (after : List Phase) (spells : List Spell) (book paused : Book) (answers : List Answer) (start : Opening) (calls : List Call)
+    (was now : Opening → List Call → Type 0) → IsHere setting phases before first block others after → IsCourse setting (change_in phases) (depth_of phases) (done_before before first) spells
+    → AllAnswer (opening_flags setting opening_objects) (calls_of spells) → NoneIsOver spells (block_at before block ∷ ahead_of before others after) → book.state ≡ session_at setting (depth_of phases) spells block.session → book.journal.entries ≡ []
+    → HasPlayed setting setting (change_in phases) block book paused [] answers was now → start.flags ≡ opening_flags setting opening_objects → was start calls → LeadAlike calls (calls_of spells)
+    → ((more : List Call) → now start more → AllAnswer start.flags more) → length (written_out block.lines) ≤ 200000 → IsDone setting phases before first block others after spells book paused answers start calls now
+is_done setting phases before first block others after spells book paused answers start calls was now here course answer none is empty played opens led alike plain short =
     let one : PhasedBlock = block_at before block in
-    let number : ℕ = block.session in
-    let at : State = session_at setting (depth_of phases) spells number in
-    let numbers : book.state.number ≡ number = ap (λ (s : State). s.number) is ∙ course.numbers number in
+    let change : Label → Change = change_in phases in
+    let flags : List ℕ = opening_flags setting opening_objects in
+    let at : State = session_at setting (depth_of phases) spells block.session in
     let did = played.did in
     let ps : List Part = did.parts in
-    let way : HaveLed book.state ps start calls now = did.done.leads start calls led in
+    let way : HaveLed setting change book.state ps start calls now = did.done.leads start calls led in
     let doings : List Doing = way.doings in
     let parts : parts_in doings ≡ ps = way.parts_are in
-    let deeds : deeds_in ps ≡ deeds_of admin number block.connect (written_out block.lines) = did.deeds_are ∙ ap (λ n. deeds_of admin n block.connect (written_out block.lines)) numbers in
     let are : AreParts at ps = subst (λ (s : State). AreParts s ps) is did.done.are_parts in
-    let flags : AllAnswer (opening_flags setting opening_objects) (doings_calls doings ++ calls) = subst (λ (f : List ℕ). AllAnswer f (doings_calls doings ++ calls)) opens (plain (doings_calls doings ++ calls) way.reached) in
-    let done : IsPlayed setting (depth_of phases) spells admin one doings = record {
+    let told : AllAnswer flags (doings_calls doings ++ calls) = subst (λ (f : List ℕ). AllAnswer f (doings_calls doings ++ calls)) opens (plain (doings_calls doings ++ calls) way.reached) in
+    let done : IsPlayed setting change (depth_of phases) spells one doings = record {
       goes_on = here.reached.goes_on spells none;
       are_parts = subst (λ (z : List Part). AreParts at z) (sym parts) are;
       may = subst (λ (z : List Part). MayDoAll false at z) (sym parts) (subst (λ (s : State). MayDoAll false s ps) is did.may);
       labelled = subst (λ (s : State). AreLabelled s doings) is way.labelled;
-      deeds = ap deeds_in parts ∙ deeds;
-      answer = answers_more (opening_flags setting opening_objects) (doings_calls doings) calls (calls_of spells) alike course.answer flags;
+      folded = way.folded;
+      asked = subst (AreFor (asks_of block.connect (written_out block.lines))) (sym parts) did.asked;
     } in
-    let more = one_more setting phases (depth_of phases) (done_before before first) spells admin one doings course here.reached.next done in
-    let over : played.over ≡ over_behind false (parts_in doings) = sym did.over_is ∙ ap (over_behind false) (sym parts) in
+    let more = one_more setting phases (depth_of phases) (done_before before first) spells one doings course here.reached.next done in
     let text : paused.journal.entries ≡ joined (entries_of ps) = did.done.entries_are ∙ ap (λ (z : List Entry). z ++ joined (entries_of ps)) empty in
     record {
       doings = doings;
       more = more;
-      admin_is = played.after_is ∙ (ap (λ n. ended_by (admin_after (connected_by admin n block.connect) (written_out block.lines)) n played.over) numbers ∙ ap (λ b. behind_block admin block b) over);
+      answer = subst (AllAnswer flags) (sym (calls_more spells (spell_at one doings))) (answers_more flags (doings_calls doings) calls (calls_of spells) alike answer told);
       state = did.done.state ∙ (ap (λ (s : State). state_behind s ps) is ∙ ap (λ (z : List Part). state_behind at z) (sym parts));
       entries = text ∙ ap (λ (z : List Part). joined (entries_of z)) (sym parts);
       led = way.reached;
-      ahead = here.reached.ahead setting (depth_of phases) spells admin doings none done more;
+      ahead = here.reached.ahead setting (depth_of phases) spells doings none done more;
       are_parts = done.are_parts;
-      digests = subst (λ (es : List Entry). lost_digests es ≤ 1200012) (sym text) (block_digests at ps admin number block.connect (written_out block.lines) are deeds short);
-      statements = subst (λ (es : List Entry). lost_statements es ≤ 200002) (sym text) (block_few _ at ps admin number block.connect (written_out block.lines) are deeds short);
-      waits = subst (λ (es : List Entry). lost_waits es ≤ 200002) (sym text) (block_few _ at ps admin number block.connect (written_out block.lines) are deeds short);
+      digests = subst (λ (es : List Entry). lost_digests es ≤ 1200012) (sym text) (block_digests at ps block.connect (written_out block.lines) are did.asked short);
+      statements = subst (λ (es : List Entry). lost_statements es ≤ 200002) (sym text) (block_few _ at ps block.connect (written_out block.lines) are did.asked short);
+      waits = subst (λ (es : List Entry). lost_waits es ≤ 200002) (sym text) (block_few _ at ps block.connect (written_out block.lines) are did.asked short);
       answered = subst (λ (z : List Part). AreAnswers (Answers setting) (selections_in block) z answers) (sym parts)
           (subst (AreAnswers (Answers setting) (selections_in block) ps) (sym did.given_are) did.answered);
     }
 
 -- a block that was played with no answers yet, and what is shown of those that came
-pub from_none : (setting : Setting) (block : Block) (admin new_admin : Administration) (book paused : Book) (before after shown : List Answer) (was now : Opening → List Call → Type 0)
-    → HasPlayed setting block admin new_admin book paused before after was now → before ≡ [] → shown ≡ after → HasPlayed setting block admin new_admin book paused [] shown was now
-from_none setting block admin new_admin book paused before after shown was now played none same =
-    subst (λ (z : List Answer). HasPlayed setting block admin new_admin book paused [] z was now) (sym same)
-    (subst (λ (z : List Answer). HasPlayed setting block admin new_admin book paused z after was now) none played)
+pub from_none : (setting fixed : Setting) (change : Label → Change) (block : Block) (book paused : Book) (before after shown : List Answer) (was now : Opening → List Call → Type 0) → HasPlayed setting fixed change block book paused before after was now
+    → before ≡ [] → shown ≡ after → HasPlayed setting fixed change block book paused [] shown was now
+from_none setting fixed change block book paused before after shown was now played none same =
+    subst (λ (z : List Answer). HasPlayed setting fixed change block book paused [] z was now) (sym same)
+    (subst (λ (z : List Answer). HasPlayed setting fixed change block book paused z after was now) none played)
+
+-- in a run that fixes this setting and changes what these phases say
+pub in_run : (setting fixed : Setting) (change other : Label → Change) (block : Block) (book paused : Book) (answers behind : List Answer) (was now : Opening → List Call → Type 0) → fixed ≡ setting → change ≡ other
+    → HasPlayed setting fixed change block book paused answers behind was now → HasPlayed setting setting other block book paused answers behind was now
+in_run setting fixed change other block book paused answers behind was now same too played =
+    subst (λ (f : Setting). HasPlayed setting f other block book paused answers behind was now) same
+    (subst (λ (c : Label → Change). HasPlayed setting fixed c block book paused answers behind was now) too played)
 
 -- the blocks so far, with one more
 pub more_done : (before : List Phase) (first : List Block) (block : Block) → length (done_before before (first ++ block ∷ [])) ≡ length (done_before before first) + 1
 more_done before first block = ap length (done_block before first block) ∙ length-append (done_before before first) (block_at before block ∷ [])
 
 -- a session that isn't the block's waits as it did
-pub others_by : (setting : Setting) (phases before : List Phase) (first : List Block) (block : Block) (spells : List Spell) (admin : Administration) (doings : List Doing) (session : ℕ) (seat : Option Book)
-    → IsOneMore setting (change_in phases) (depth_of phases) (done_before before first) spells admin (block_at before block) doings → (block.session == session) ≡ false
+pub others_by : (setting : Setting) (phases before : List Phase) (first : List Block) (block : Block) (spells : List Spell) (doings : List Doing) (session : ℕ) (seat : Option Book)
+    → IsOneMore setting (change_in phases) (depth_of phases) (done_before before first) spells (block_at before block) doings → (block.session == session) ≡ false
     → Sits setting phases (done_before before first) spells session seat → Sits setting phases (done_before before (first ++ block ∷ [])) (spells ++ spell_at (block_at before block) doings ∷ []) session seat
-others_by setting phases before first block spells admin doings session None more other sits =
+others_by setting phases before first block spells doings session None more other sits =
     ap (own_blocks session) (done_block before first block) ∙ (own_more session (done_before before first) (block_at before block) ∙ (ap (λ b. own_blocks session (done_before before first) ++ cond b (block ∷ []) []) other ∙ (append-nil _ ∙ sits)))
-others_by setting phases before first block spells admin doings session (Some book) more other sits =
+others_by setting phases before first block spells doings session (Some book) more other sits =
     let own : own_blocks session (done_before before (first ++ block ∷ [])) ≡ own_blocks session (done_before before first) =
     ap (own_blocks session) (done_block before first block) ∙ (own_more session (done_before before first) (block_at before block) ∙ (ap (λ b. own_blocks session (done_before before first) ++ cond b (block ∷ []) []) other ∙ append-nil _)) in
     let count = more_done before first block in
@@ -148,14 +155,14 @@ some_blocks [] block e = cc
 some_blocks (b ∷ bs) block e = cc
 
 -- the block's session waits for its next block
-pub own_waits : (setting : Setting) (phases before : List Phase) (first : List Block) (block : Block) (others : List Block) (after : List Phase) (spells : List Spell) (admin : Administration) (doings : List Doing) (book paused waiting : Book)
-    → IsHere setting phases before first block others after → IsReady setting phases (done_before before first) spells admin block book
-    → IsOneMore setting (change_in phases) (depth_of phases) (done_before before first) spells admin (block_at before block) doings
+pub own_waits : (setting : Setting) (phases before : List Phase) (first : List Block) (block : Block) (others : List Block) (after : List Phase) (spells : List Spell) (doings : List Doing) (book paused waiting : Book)
+    → IsHere setting phases before first block others after → IsReady setting phases (done_before before first) spells block book
+    → IsOneMore setting (change_in phases) (depth_of phases) (done_before before first) spells (block_at before block) doings
     → paused.state ≡ state_behind (session_at setting (depth_of phases) spells block.session) (parts_in doings) → waiting.state ≡ paused.state → waiting.journal.entries ≡ [] → paused.state.held ≡ nothing_held
     → kinds_at paused.state ≡ kinds_after (kinds_at book.state) (written_out block.lines) → StagesLie (kinds_at paused.state) → paused.state.drawn ≤ book.state.drawn + length (written_out block.lines)
     → paused.state.opened.depth ≡ book.state.opened.depth → paused.state.actions ≤ book.state.actions + actions_on (written_out block.lines) + 2 → kinds_after (kinds_at book.state) (written_out block.lines) ≡ kinds_left (lines_at block.session (done_before before first) ++ written_out block.lines)
     → IsWaiting setting phases (done_before before (first ++ block ∷ [])) (spells ++ spell_at (block_at before block) doings ∷ []) block.session waiting
-own_waits setting phases before first block others after spells admin doings book paused waiting here ready more state same entries free kinds lie drawn depth actions left =
+own_waits setting phases before first block others after spells doings book paused waiting here ready more state same entries free kinds lie drawn depth actions left =
     let own : (block.session == block.session) ≡ true = eq-eqb block.session block.session refl in
     let count = more_done before first block in
     let short = here.playable.short in

@@ -3,13 +3,13 @@ use Rattle.std.proofs.Common.{ℕ, ◌≡◌, ◌+◌, List, [], ◌∷◌, ◌+
 use Rattle.pfs_admin.specs.AdministrationStates.{State as Administration}
 use Rattle.pfs_law_plain.specs.Spells.{Spell, parts_in}
 use Rattle.pfs_classes.specs.declared.setting.Setting.{Setting}
-use Rattle.pfs_law_script.specs.Course.{AreSpellsOf, IsSpellOf, PhasedBlock, connected_by, deeds_along, deeds_in, deeds_of, numbered, phased}
+use Rattle.pfs_law_script.specs.Course.{AreSpellsOf, IsSpellOf, PhasedBlock, asks_of, numbered, phased}
 use Rattle.pfs_law_script.specs.ReportSpells.{AreTold, ArePhasesTold}
 use Rattle.pfs_law_plain.specs.LineDeeds.{bare, deed_on, sql_deed}
 use Rattle.pfs_journal.specs.declared.blocks.BlockReport.{BlockReport}
 use Rattle.pfs_journal.specs.declared.report.PhaseParts.{PhaseParts}
 use Rattle.pfs_law_session.specs.Deeds.{Deed, Connecting, Starting, Staging, StageEnding, Ending, Spending, Quitting, Truncating, Changing, Showing, Querying, Refusing, Closing, Part}
-use Rattle.pfs_play.specs.Errands.{admin_behind, errand_on}
+use Rattle.pfs_play.specs.Errands.{AreFor, asks_on}
 use Rattle.pfs_law_report.specs.ReportableRuns.{AreAsked, IsRowless}
 use Rattle.pfs_exec.specs.Requests.{request_of}
 use Rattle.pfs_exec.specs.declared.requests.Request.{Request}
@@ -72,28 +72,20 @@ one_asked : (one : Option Selection) (rest : List (Option Selection)) (p : Part)
 one_asked None rest p ps here later = (here, later)
 one_asked (Some selection) rest p ps here later = later
 
-along_asked : (admin : Administration) (lines : List BlockLine) (parts : List Part) → deeds_in parts ≡ deeds_along admin lines ++ Closing ∷ [] → AreAsked (map selection_on lines ++ None ∷ []) parts
-along_asked admin [] [] e = tt
-along_asked admin [] (p ∷ ps) e =
-    let head : bare p.deed ≡ Closing = cc in
-    (rowless_as p.deed Closing head tt, tt)
-along_asked admin (line ∷ lines) [] e = absurd (cc)
-along_asked admin (line ∷ lines) (p ∷ ps) e =
-    let head : bare p.deed ≡ deed_on admin line = cc in
-    let tail : deeds_in ps ≡ deeds_along (admin_behind admin (errand_on line)) lines ++ Closing ∷ [] = cc in
-    one_asked (selection_on line) (map selection_on lines ++ None ∷ []) p ps (line_asked admin line p.deed head) (along_asked (admin_behind admin (errand_on line)) lines ps tail)
+along_asked : (lines : List BlockLine) (parts : List Part) → AreFor (asks_on lines ++ (λ admin. Closing) ∷ []) parts → AreAsked (map selection_on lines ++ None ∷ []) parts
+along_asked [] [] are = absurd are
+along_asked [] (p ∷ []) are = (rowless_as p.deed Closing are.0.is tt, tt)
+along_asked [] (p ∷ (other ∷ ps)) are = absurd are.1
+along_asked (line ∷ lines) [] are = absurd are
+along_asked (line ∷ lines) (p ∷ ps) are = one_asked (selection_on line) (map selection_on lines ++ None ∷ []) p ps (line_asked are.0.admin line p.deed are.0.is) (along_asked lines ps are.1)
 
-parts_asked : (admin : Administration) (number : ℕ) (connect : Option Connect) (lines : List BlockLine) (parts : List Part) → deeds_in parts ≡ deeds_of admin number connect lines
-    → AreAsked (connect_selections connect ++ (map selection_on lines ++ None ∷ [])) parts
-parts_asked admin number None lines parts e = along_asked (connected_by admin number None) lines parts e
-parts_asked admin number (Some names) lines [] e = absurd (cc)
-parts_asked admin number (Some names) lines (p ∷ ps) e =
-    let head : bare p.deed ≡ Connecting admin names.user names.host = cc in
-    let tail : deeds_in ps ≡ deeds_along (connected_by admin number (Some names)) lines ++ Closing ∷ [] = cc in
-    (rowless_as p.deed (Connecting admin names.user names.host) head tt, along_asked (connected_by admin number (Some names)) lines ps tail)
+parts_asked : (connect : Option Connect) (lines : List BlockLine) (parts : List Part) → AreFor (asks_of connect lines) parts → AreAsked (connect_selections connect ++ (map selection_on lines ++ None ∷ [])) parts
+parts_asked None lines parts are = along_asked lines parts are
+parts_asked (Some names) lines [] are = absurd are
+parts_asked (Some names) lines (p ∷ ps) are = (rowless_as p.deed (Connecting are.0.admin names.user names.host) are.0.is tt, along_asked lines ps are.1)
 
 pub spell_asked : (one : PhasedBlock) (spell : Spell) → IsSpellOf one spell → AreAsked (selections_in one.block) (parts_in spell.doings)
-spell_asked one spell is = parts_asked is.admin one.block.session one.block.connect (written_out one.block.lines) (parts_in spell.doings) is.deeds
+spell_asked one spell is = parts_asked one.block.connect (written_out one.block.lines) (parts_in spell.doings) is.asked
 
 -- the spells of the blocks of a phase, behind those of the phases before it
 behind_blocks : (setting : Setting) (number : ℕ) (blocks : List Block) (first rest : List Spell) (reports : List BlockReport) (more : List PhasedBlock) → AreTold setting number blocks first reports

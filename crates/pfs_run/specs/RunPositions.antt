@@ -2,7 +2,6 @@
 use Rattle.std.specs.Prelude.{ℕ, ◌≡◌, ◌≤◌, ◌+◌, ◌-◌, ◌*◌, ◌^◌, List, [], ◌++◌, length, Option, Some, None, MatchOption}
 use Rattle.std.specs.List.{All, flat_map, slice_index_or}
 use Rattle.pfs_admin.specs.OpeningState.{opening_flags}
-use Rattle.pfs_admin.specs.AdministrationStates.{State as Administration}
 use Rattle.pfs_law_plain.specs.Spells.{Spell, calls_of}
 use Rattle.pfs_classes.specs.declared.setting.Setting.{Setting}
 use Rattle.pfs_law_script.specs.BlocksAhead.{NoneIsOver, done_before}
@@ -15,6 +14,7 @@ use Rattle.pfs_journal.specs.Reports.{IsPhase}
 use Rattle.pfs_journal.specs.declared.blocks.BlockReport.{BlockReport}
 use Rattle.pfs_journal.specs.declared.report.PhaseParts.{PhaseParts}
 use Rattle.pfs_levels.specs.Calls.{Call, Opening}
+use Rattle.pfs_levels.specs.PlainStore.{AllAnswer}
 use Rattle.pfs_levels.specs.Views.{Store}
 use Rattle.pfs_matching.specs.ObjectRules.{opening_objects}
 use Rattle.pfs_model.specs.Chains.{each_of, times}
@@ -33,7 +33,7 @@ use Rattle.pfs_script.specs.declared.blocks.Block.{Block}
 use Rattle.pfs_script.specs.declared.blocks.BlockLine.{BlockLine}
 use Rattle.pfs_script.specs.declared.blocks.Phase.{Phase}
 use Rattle.pfs_session.specs.SessionStates.{Book, fresh, nothing_held}
-use Rattle.pfs_run.specs.declared.runner.Runner.{Runner}
+use Rattle.pfs_run.specs.declared.runner.Progress.{Progress}
 
 -- a session has room for as many open events as its blocks have lines
 abbrev pub depth_of : List Phase → ℕ → ℕ
@@ -83,34 +83,34 @@ pub record Position : Type 0 where
 abbrev pub position : List Phase → List Block → List PhasedBlock → Position
 position before first ahead = record { before = before; first = first; ahead = ahead }
 
--- a run as its runner has it: the store, the administration, the seats of the sessions, what was lost so far, the phases
--- that ended, and the blocks of the one under way
+-- a run as its runner has it: the store, the seats of the sessions, what was lost so far, the phases that ended, and the
+-- blocks of the one under way
 pub record Standing : Type 1 where
   pub store : Store
-  pub admin : Administration
   pub seats : List (Option Book)
   pub lost : LostEvents
   pub ended : List PhaseParts
   pub told : List BlockReport
 
-abbrev pub standing : Store → Runner → Standing
-standing store runner = record {
+abbrev pub standing : Store → Progress → Standing
+standing store progress = record {
   store = store;
-  admin = runner.admin;
-  seats = runner.seats.items;
-  lost = runner.lost;
-  ended = runner.phases.items;
-  told = runner.blocks.items;
+  seats = progress.seats.items;
+  lost = progress.lost;
+  ended = progress.phases.items;
+  told = progress.blocks.items;
 }
 
--- At this position: what the sessions did, that the store was led there by just that and by reads between, what is told
--- of it, the phases that ended, and the sessions that wait for their next blocks.
+-- At this position: what the sessions did, that the store was led there by just that and by reads between, which it
+-- answered as a plain store does, what is told of it, the phases that ended, and the sessions that wait for their next
+-- blocks.
 pub record IsAlong (setting : Setting) (phases : List Phase) (at : Position) (run : Standing) : Type 0 where
   pub limits : AreInRange setting.limits
   pub earlier : List Spell
   pub current : List Spell
   pub course : IsCourse setting (change_in phases) (depth_of phases) (done_before at.before at.first)
-      (earlier ++ current) run.admin
+      (earlier ++ current)
+  pub answer : AllAnswer (opening_flags setting opening_objects) (calls_of (earlier ++ current))
   pub none_over : NoneIsOver (earlier ++ current) at.ahead
   pub phases_told : ArePhasesTold setting 1 at.before run.ended earlier
   pub blocks_told : AreTold setting (1 + length at.before) at.first current run.told
@@ -122,11 +122,8 @@ pub record IsAlong (setting : Setting) (phases : List Phase) (at : Position) (ru
   pub calls : List Call
   pub led : run.store.reached start calls
   pub alike : LeadAlike calls (calls_of (earlier ++ current))
-  pub idle : (row : ℕ) → run.store.hand row ≡ None
-  pub lent : run.store.words ≡ Some run.admin.words
   pub spare : 2 ^ 47 ≤ run.store.left + 340000000 * length (done_before at.before at.first)
   pub tickets : 2 ^ 47 ≤ run.store.draws + 400000 * length (done_before at.before at.first)
-  pub acted : run.admin.actions ≤ 16668 * length (done_before at.before at.first)
   pub wide : length run.seats ≡ 64
   pub seated : (session : ℕ) → 1 ≤ session → session ≤ 64
       → Sits setting phases (done_before at.before at.first) (earlier ++ current) session (seat_of run.seats session)

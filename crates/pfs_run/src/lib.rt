@@ -1,6 +1,7 @@
 //! A run of a script on one thread: phase after phase its blocks, each in its session, over a plain store.
 #![tactic(auto)]
 
+mod naming;
 mod run;
 mod runner;
 mod seats;

@@ -1,5 +1,6 @@
 use Rattle.std.proofs.Common.{◌∙◌, arith}
 use Rattle.pfs_play.proofs.ErrandParts.{end_ran}
+use Rattle.pfs_play.proofs.HeldBounds.{played_wide}
 use Rattle.pfs_play.proofs.events.end.Goals as goal
 
 pub end-requires-clause-affords : goal.end-requires-clause-affords
@@ -10,7 +11,12 @@ end-requires-clause-affords g c = record {
 }
 
 pub returns-clause-run : goal.returns-clause-run
-returns-clause-run g c = end_ran c.args.numbers.now c.args.session.now c.stage.new.self c.end.new.self _ _ _ c.stage.ensures.played c.end.ensures.played
+returns-clause-run g c = λ fixed change. end_ran fixed change c.args.numbers.now c.args.session.now c.stage.new.self c.end.new.self _ _ _ c.stage.ensures.played c.end.ensures.played
+
+pub returns-clause-wide : goal.returns-clause-wide
+returns-clause-wide g c =
+    played_wide _ c.stage.new.self c.end.new.self (g.R.Rows.seen c.stage.new.rows).reached (g.R.Rows.seen c.end.new.rows).reached c.end.ensures.played
+    (played_wide _ c.args.session.now c.stage.new.self (g.R.Rows.seen c.args.rows.now).reached (g.R.Rows.seen c.stage.new.rows).reached c.stage.ensures.played c.requires.wide)
 
 pub returns-clause-used : goal.returns-clause-used
 returns-clause-used g c = record {

@@ -1,15 +1,14 @@
 use Rattle.std.proofs.Common.{◌≡◌, take, drop}
 use Rattle.pfs_law_plain.specs.LineSteps.{kinds_at}
-use Rattle.pfs_play.specs.Errands.{CanPlay, HavePlayed, StagesLie, admin_after, kinds_after}
+use Rattle.pfs_play.specs.Errands.{CanPlay, HavePlayed, StagesLie, kinds_after}
 use Rattle.pfs_play.specs.Needs.{Advanced, need_on}
 use Rattle.pfs_play.proofs.lines.play_lines.Given as goal
 
 abbrev pub invariant-loop-line : goal.invariant-loop-line
 invariant-loop-line g l = record {
-  played : HavePlayed l.setting (take l.line-index l.lines) l.fn.admin l.fn.session l.session l.fn.answers.items l.answers.items (g.A.Rows.seen l.fn.rows).reached (g.A.Rows.seen l.rows).reached;
-  admin : l.admin ≡ admin_after l.fn.admin (take l.line-index l.lines);
+  played : HavePlayed l.setting g.A.Actor.setting g.A.Actor.change (take l.line-index l.lines) l.fn.session l.session l.fn.answers.items l.answers.items (g.A.Rows.seen l.fn.actor).reached (g.A.Rows.seen l.actor).reached;
   can : CanPlay 62 l.session.state.opened.depth (kinds_at l.session.state) (drop l.line-index l.lines);
   kinds : kinds_after (kinds_at l.session.state) (drop l.line-index l.lines) ≡ kinds_after (kinds_at l.fn.session.state) l.lines;
   lie : StagesLie (kinds_at l.session.state);
-  advanced : Advanced (need_on (take l.line-index l.lines)) l.fn.session l.session l.fn.admin l.admin (g.A.Rows.seen l.fn.rows) (g.A.Rows.seen l.rows);
+  advanced : Advanced (need_on (take l.line-index l.lines)) l.fn.session l.session (g.A.Rows.seen l.fn.actor) (g.A.Rows.seen l.actor);
 }

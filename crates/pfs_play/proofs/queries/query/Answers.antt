@@ -24,7 +24,7 @@ returns-clause-run g c =
     let end : Played (remark (Rows (length answer)) ∷ []) c.look_at.new.session c.append-2.new.self (g.R.Rows.seen c.look_at.new.rows).reached (g.R.Rows.seen c.look_at.new.rows).reached =
     subst (λ (n : ℕ). Played (remark (Rows n) ∷ []) c.look_at.new.session c.append-2.new.self (g.R.Rows.seen c.look_at.new.rows).reached (g.R.Rows.seen c.look_at.new.rows).reached) (ap length c.as_slice-2.ensures)
     (remarked (Rows (length c.as_slice-2.result.now)) c.look_at.new.session c.append-2.new.self (g.R.Rows.seen c.look_at.new.rows).reached c.append-2.ensures.does c.append-2.ensures.entries) in
-    λ admin. query_ran c.args.setting.now admin c.args.what readings answer c.args.session.now c.append-2.new.self c.args.answers.now.items c.push.new.self.items (g.R.Rows.seen c.args.rows.now).reached (g.R.Rows.seen c.look_at.new.rows).reached
+    λ fixed change. query_ran c.args.setting.now fixed change c.args.what readings answer c.args.session.now c.append-2.new.self c.args.answers.now.items c.push.new.self.items (g.R.Rows.seen c.args.rows.now).reached (g.R.Rows.seen c.look_at.new.rows).reached
     c.in_ok-readings.ensures.whole (subst (λ (rows : Answer). IsAnswer c.args.what rows answer) listed c.in_ok-answer.ensures) c.in_ok-push.ensures.items
     (queried readings (length answer) c.args.session.now c.append.new.self c.look_at.new.session c.append-2.new.self (g.R.Rows.seen c.args.rows.now).reached (g.R.Rows.seen c.look_at.new.rows).reached begin c.in_ok-readings.ensures.played end)
 

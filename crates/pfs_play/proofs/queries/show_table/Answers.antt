@@ -12,9 +12,7 @@ show_held-requires-clause-acts g c =
     let settling = settling_fits c.args.session.now.state c.requires.wide in
     let acts = c.requires.acts in
     record {
-      few = acts.few;
-      idle = acts.idle;
-      lent = acts.lent;
+      begun = acts.begun;
       affords = record {
         left = omega (arith, owed, acts.affords.left);
         draws = omega arith;
@@ -24,8 +22,8 @@ show_held-requires-clause-acts g c =
 
 pub returns-clause-run : goal.returns-clause-run
 returns-clause-run g c = λ setting.
-    show_ran setting c.args.admin.now c.args.what c.in_ok-answer.answer c.args.session.now c.show_held.new.session c.args.answers.now.items c.push.new.self.items (g.A.Rows.seen c.args.rows.now).reached (g.A.Rows.seen c.show_held.new.rows).reached
-    c.in_ok-answer.ensures.answered c.in_ok-push.ensures.items c.in_ok-answer.ensures.acted
+    show_ran setting g.A.Actor.setting g.A.Actor.change c.args.what c.in_ok-answer.answer c.args.session.now c.show_held.new.session c.args.answers.now.items c.push.new.self.items (g.A.Rows.seen c.args.actor.now).reached (g.A.Rows.seen c.show_held.new.self).reached
+    c.in_ok-push.ensures.items c.in_ok-answer.ensures.shown
 
 pub returns-clause-owed : goal.returns-clause-owed
 returns-clause-owed g c =

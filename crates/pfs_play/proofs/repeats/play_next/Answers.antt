@@ -3,9 +3,10 @@ use Rattle.pfs_event.specs.declared.kind.EventKind.{EventKind}
 use Rattle.pfs_law_plain.specs.LineSteps.{kinds_at}
 use Rattle.pfs_script.specs.declared.blocks.BlockLine.{BlockLine}
 use Rattle.pfs_script.specs.Marks.{written_out}
-use Rattle.pfs_play.specs.Errands.{kinds_after}
+use Rattle.pfs_play.specs.Errands.{NamesLines, kinds_after}
 use Rattle.pfs_play.specs.Needs.{Ready, need_on}
 use Rattle.pfs_play.specs.Repeats.{AllMayPlay}
+use Rattle.pfs_play.proofs.LineLabels.{names_front}
 use Rattle.pfs_play.proofs.NeedSteps.{ready_front}
 use Rattle.pfs_play.proofs.WrittenRepeats.{begun, played, kinds_then}
 use Rattle.pfs_play.proofs.repeats.play_next.Goals as goal
@@ -16,7 +17,17 @@ play_repeat-requires-clause-may g c = (begun 62 c.args.session.now.state.opened.
 pub play_repeat-requires-clause-ready : goal.play_repeat-requires-clause-ready
 play_repeat-requires-clause-ready g c =
     let b = begun 62 c.args.session.now.state.opened.depth (kinds_at c.args.session.now.state) c.in-Some-times_of.times c.args.lines.now c.in-Some.first.now c.in-Some.others.now c.in-Some.ensures.cases.0 (sym c.times_of.ensures ∙ c.in-Some-times_of.is) c.requires.may in
-    subst (λ (z : List BlockLine). Ready (need_on z) c.args.session.now c.args.admin.now (g.A.Rows.seen c.args.rows.now)) b.written c.requires.ready
+    subst (λ (z : List BlockLine). Ready (need_on z) c.args.session.now (g.A.Rows.seen c.args.actor.now)) b.written c.requires.ready
+
+pub play_repeat-requires-clause-named : goal.play_repeat-requires-clause-named
+play_repeat-requires-clause-named g c =
+    let b = begun 62 c.args.session.now.state.opened.depth (kinds_at c.args.session.now.state) c.in-Some-times_of.times c.args.lines.now c.in-Some.first.now c.in-Some.others.now c.in-Some.ensures.cases.0 (sym c.times_of.ensures ∙ c.in-Some-times_of.is) c.requires.may in
+    subst (λ (z : List BlockLine). NamesLines g.A.Actor.change c.args.session.now.state.number c.args.session.now.state.actions z) b.written c.requires.named
+
+pub play_lines-requires-clause-named : goal.play_lines-requires-clause-named
+play_lines-requires-clause-named g c =
+    let p = played 62 c.args.session.now.state.opened.depth (kinds_at c.args.session.now.state) c.args.lines.now c.in-Some.first.now c.in-Some.others.now c.in-Some.ensures.cases.0 (sym c.times_of.ensures ∙ c.in-None.is) c.requires.may in
+    names_front g.A.Actor.change c.args.session.now.state.number c.args.session.now.state.actions (take 1 c.args.lines.now) (written_out (drop 1 c.args.lines.now)) (subst (λ (z : List BlockLine). NamesLines g.A.Actor.change c.args.session.now.state.number c.args.session.now.state.actions z) p.written c.requires.named)
 
 pub play_lines-requires-clause-can : goal.play_lines-requires-clause-can
 play_lines-requires-clause-can g c = (played 62 c.args.session.now.state.opened.depth (kinds_at c.args.session.now.state) c.args.lines.now c.in-Some.first.now c.in-Some.others.now c.in-Some.ensures.cases.0 (sym c.times_of.ensures ∙ c.in-None.is) c.requires.may).can
@@ -24,8 +35,8 @@ play_lines-requires-clause-can g c = (played 62 c.args.session.now.state.opened.
 pub play_lines-requires-clause-ready : goal.play_lines-requires-clause-ready
 play_lines-requires-clause-ready g c =
     let p = played 62 c.args.session.now.state.opened.depth (kinds_at c.args.session.now.state) c.args.lines.now c.in-Some.first.now c.in-Some.others.now c.in-Some.ensures.cases.0 (sym c.times_of.ensures ∙ c.in-None.is) c.requires.may in
-    let all = subst (λ (z : List BlockLine). Ready (need_on z) c.args.session.now c.args.admin.now (g.A.Rows.seen c.args.rows.now)) p.written c.requires.ready in
-    ready_front (take 1 c.args.lines.now) (written_out (drop 1 c.args.lines.now)) c.args.session.now c.args.admin.now (g.A.Rows.seen c.args.rows.now) all
+    let all = subst (λ (z : List BlockLine). Ready (need_on z) c.args.session.now (g.A.Rows.seen c.args.actor.now)) p.written c.requires.ready in
+    ready_front (take 1 c.args.lines.now) (written_out (drop 1 c.args.lines.now)) c.args.session.now (g.A.Rows.seen c.args.actor.now) all
 
 pub returns-in-Ok-clause-gone : goal.returns-in-Ok-clause-gone
 returns-in-Ok-clause-gone g c =
@@ -35,7 +46,6 @@ returns-in-Ok-clause-gone g c =
       first = gone.first;
       are = b.written ∙ (gone.are ∙ ap (λ (l : List BlockLine). gone.first ++ written_out l) (sym (b.behind c.in-Ok.taken)));
       played = gone.played;
-      after_is = gone.after_is;
       advanced = gone.advanced;
     }
 
@@ -48,7 +58,7 @@ returns-in-Ok-clause-kinds g c =
 pub returns-in-Ok-play_lines-clause-gone : goal.returns-in-Ok-play_lines-clause-gone
 returns-in-Ok-play_lines-clause-gone g c =
     let p = played 62 c.args.session.now.state.opened.depth (kinds_at c.args.session.now.state) c.args.lines.now c.in-Some.first.now c.in-Some.others.now c.in-Some.ensures.cases.0 (sym c.times_of.ensures ∙ c.in-None.is) c.requires.may in
-    record { first = take 1 c.args.lines.now; are = p.written; played = c.in-Ok-play_lines.ensures.played; after_is = c.in-Ok-play_lines.ensures.admin; advanced = c.in-Ok-play_lines.ensures.advanced }
+    record { first = take 1 c.args.lines.now; are = p.written; played = c.in-Ok-play_lines.ensures.played; advanced = c.in-Ok-play_lines.ensures.advanced }
 
 pub returns-in-Ok-play_lines-clause-may : goal.returns-in-Ok-play_lines-clause-may
 returns-in-Ok-play_lines-clause-may g c =

@@ -11,9 +11,7 @@ act-requires-clause-acts g c =
     let settling = settling_fits c.args.session.now.state c.requires.wide in
     let acts = c.requires.acts in
     record {
-      few = acts.few;
-      idle = acts.idle;
-      lent = acts.lent;
+      begun = acts.begun;
       affords = record {
         left = omega (arith, owed, acts.affords.left);
         draws = omega arith;

@@ -11,13 +11,11 @@ truncate-requires-clause-acts g c =
     let settling = settling_fits c.args.session.now.state c.requires.wide in
     let acts = c.requires.acts in
     record {
-      few = acts.few;
-      idle = acts.idle;
-      lent = acts.lent;
+      begun = acts.begun;
       affords = record {
-        left = omega (arith, owed, c.truncation_cost.ensures.cost, c.truncation_cost.ensures.few, acts.affords.left);
+        left = omega (arith, owed, acts.affords.left);
         draws = omega arith;
-        room = omega (arith, settling, c.truncation_cost.ensures.cost, c.truncation_cost.ensures.few, acts.affords.room);
+        room = omega (arith, settling, acts.affords.room);
       };
     }
 
@@ -33,11 +31,11 @@ returns-clause-used g c =
     let settling = settling_fits c.args.session.now.state c.requires.wide in
     let used = c.truncate.ensures.used in
     record {
-      left = omega (arith, owed, c.truncation_cost.ensures.cost, c.truncation_cost.ensures.few, used.left);
+      left = omega (arith, owed, used.left);
       draws = used.draws;
       no_more = used.no_more;
       hand = used.hand;
       words = used.words;
       name = used.name;
-      room = omega (arith, settling, c.truncation_cost.ensures.cost, c.truncation_cost.ensures.few, used.room);
+      room = omega (arith, settling, used.room);
     }

@@ -1,7 +1,6 @@
-use Rattle.std.proofs.Common.{◌+◌, [], length, take, drop}
-use Rattle.pfs_law_script.specs.Course.{numbered}
-use Rattle.pfs_run.proofs.RunnerState.{Stands}
+use Rattle.pfs_runs.specs.ScriptLines.{change_in}
 use Rattle.pfs_run.proofs.run.run_plain.Given as goal
 
-abbrev pub invariant-loop-phase : goal.invariant-loop-phase
-invariant-loop-phase l = Stands l.setting l.phases (take l.phase-index l.phases) [] (numbered (1 + length (take l.phase-index l.phases)) (drop l.phase-index l.phases)) l.runner
+-- the run is that of this script
+abbrev pub ghosts-run_picked : goal.ghosts-run_picked
+ghosts-run_picked a = record { setting = a.setting.now; change = change_in a.phases.now }
