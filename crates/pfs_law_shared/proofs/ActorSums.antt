@@ -2,7 +2,7 @@
 use Rattle.std.proofs.Common.{ℕ, ◌≡◌, ◌+◌, ◌==◌, Bool, true, false, cond, List, [], ◌∷◌, ◌++◌, Option, Some, None, refl, ap, ◌∙◌, arith}
 use Rattle.std.specs.Prelude.{nat_lt, nat_le}
 use Rattle.pfs_board.specs.declared.view.Label.{Label}
-use Rattle.pfs_levels.specs.Calls.{Call, Enters, Leaves}
+use Rattle.pfs_levels.specs.Calls.{Call, Enters, Leaves, Meets}
 use Rattle.pfs_levels.specs.JointCalls.{total, one_if, At, changes_of, Setting, sets_of, all_calls}
 use Rattle.pfs_law_session.specs.Deeds.{action_of, part_calls, parts_calls}
 use Rattle.pfs_law_plain.specs.Spells.{Doing, Spell, around, doing_calls, doings_calls, parts_in}
@@ -11,12 +11,13 @@ use Rattle.pfs_law_joint.proofs.MarkSums.{changes_then, sets_then}
 use Rattle.pfs_law_shared.specs.Shares.{actors_of, spells_at, spells_before}
 use Rattle.pfs_law_shared.proofs.PhaseWeights.{calls_up_to}
 
--- a weight of lists of calls that adds up, and to which beginning and ending actions add nothing
+-- a weight of lists of calls that adds up, and to which beginning and ending actions, and their meets, add nothing
 pub record IsAdditive (weigh : List Call → ℕ) : Type 0 where
   pub none : weigh [] ≡ 0
   pub both : (xs ys : List Call) → weigh (xs ++ ys) ≡ weigh xs + weigh ys
   pub enters : (label : Label) (labels : List Label) → weigh (Enters label labels ∷ []) ≡ 0
   pub leaves : weigh (Leaves ∷ []) ≡ 0
+  pub meets : (versions : List ℕ) → weigh (Meets versions ∷ []) ≡ 0
 
 pub changes_add : (h : At → ℕ) → IsAdditive (λ calls. total h (changes_of calls))
 unfolding total changes_of
@@ -25,6 +26,7 @@ changes_add h = record {
   both = λ xs ys. ap (total h) (changes_then xs ys) ∙ total_then h (changes_of xs) (changes_of ys);
   enters = λ label labels. refl;
   leaves = refl;
+  meets = λ versions. refl;
 }
 
 pub sets_add : (h : Setting → ℕ) → IsAdditive (λ calls. total h (sets_of calls))
@@ -34,6 +36,7 @@ sets_add h = record {
   both = λ xs ys. ap (total h) (sets_then xs ys) ∙ total_then h (sets_of xs) (sets_of ys);
   enters = λ label labels. refl;
   leaves = refl;
+  meets = λ versions. refl;
 }
 
 pub test_sum : (m n : ℕ) → one_if (m == n) + one_if (nat_lt m n) ≡ one_if (nat_le m n)
@@ -50,9 +53,14 @@ cond_sum false false true w e = absurd (omega (arith, e))
 cond_sum false false false w e = omega arith
 
 module _ (weigh : List Call → ℕ) (adds : IsAdditive weigh) where
-  around_sum : (label : Label) (labels : List Label) (action : Option ℕ) (calls : List Call) → weigh (around label labels action calls) ≡ weigh calls
-  around_sum label labels None calls = refl
-  around_sum label labels (Some number) calls =
+  pub around_sum : (label : Label) (labels : List Label) (met : Option (List ℕ)) (action : Option ℕ) (calls : List Call) → weigh (around label labels met action calls) ≡ weigh calls
+  around_sum label labels met None calls = refl
+  around_sum label labels (Some versions) (Some number) calls =
+      let a = adds.both (Leaves ∷ []) (calls ++ Meets versions ∷ Enters label labels ∷ []) in
+      let b = adds.both calls (Meets versions ∷ Enters label labels ∷ []) in
+      let c = adds.both (Meets versions ∷ []) (Enters label labels ∷ []) in
+      omega (arith, a, b, c, adds.enters label labels, adds.leaves, adds.meets versions)
+  around_sum label labels None (Some number) calls =
       let a = adds.both (Leaves ∷ []) (calls ++ Enters label labels ∷ []) in
       let b = adds.both calls (Enters label labels ∷ []) in
       omega (arith, a, b, adds.enters label labels, adds.leaves)
@@ -62,7 +70,7 @@ module _ (weigh : List Call → ℕ) (adds : IsAdditive weigh) where
   doings_sum (d ∷ ds) =
       let a = adds.both (doings_calls ds) (doing_calls d) in
       let b = adds.both (parts_calls (parts_in ds)) (part_calls d.part) in
-      omega (arith, a, b, doings_sum ds, around_sum d.label d.labels (action_of d.part.deed) (part_calls d.part))
+      omega (arith, a, b, doings_sum ds, around_sum d.label d.labels d.met (action_of d.part.deed) (part_calls d.part))
 
   actors_sum : (xs ys : List (List Call)) → weigh (all_calls (xs ++ ys)) ≡ weigh (all_calls xs) + weigh (all_calls ys)
   unfolding all_calls

@@ -19,7 +19,7 @@ use Rattle.pfs_law_session.specs.Stints.{AreStints, JournalsLaw}
 use Rattle.pfs_law_plain.specs.PlainJournals.{printed}
 use Rattle.pfs_law_plain.specs.RunRules.{entries_of}
 use Rattle.pfs_law_plain.specs.SessionNotes.{ToldLaw}
-use Rattle.pfs_law_plain.specs.Spells.{Doing, Spell, around, doing_calls, doings_calls, parts_in, stints_of}
+use Rattle.pfs_law_plain.specs.Spells.{Doing, Spell, around, entering, doing_calls, doings_calls, parts_in, stints_of}
 use Rattle.pfs_law_plain.specs.Weights.{setting_of, AreWeighed, WeighedLaw}
 use Rattle.pfs_law_plain.proofs.PhaseFronts.{entries_front}
 use Rattle.pfs_law_joint.specs.Phases.{IsShared}
@@ -77,14 +77,15 @@ content_back : (content : ℕ → ℕ → List ℕ) (xs ys : List Call) → Cont
 content_back content [] ys a = a
 content_back content (x ∷ xs) ys a = content_back content xs ys a.1
 
-around_contents : (content : ℕ → ℕ → List ℕ) (label : Label) (labels : List Label) (action : Option ℕ) (calls : List Call) → ContentsAgree content (around label labels action calls) → ContentsAgree content calls
-around_contents content label labels None calls a = a
-around_contents content label labels (Some number) calls a = content_front content calls (Enters label labels ∷ []) a.1
+around_contents : (content : ℕ → ℕ → List ℕ) (label : Label) (labels : List Label) (met : Option (List ℕ)) (action : Option ℕ) (calls : List Call) → ContentsAgree content (around label labels met action calls)
+    → ContentsAgree content calls
+around_contents content label labels met None calls a = a
+around_contents content label labels met (Some number) calls a = content_front content calls (entering label labels met) a.1
 
 doings_contents : (content : ℕ → ℕ → List ℕ) (ds : List Doing) → ContentsAgree content (doings_calls ds) → AllContentsAgree content (parts_in ds)
 doings_contents content [] a = tt
 doings_contents content (d ∷ ds) a = (
-  around_contents content d.label d.labels (action_of d.part.deed) (part_calls d.part) (content_back content (doings_calls ds) (doing_calls d) a),
+  around_contents content d.label d.labels d.met (action_of d.part.deed) (part_calls d.part) (content_back content (doings_calls ds) (doing_calls d) a),
   doings_contents content ds (content_front content (doings_calls ds) (doing_calls d) a),
 )
 
@@ -96,14 +97,14 @@ load_back : (of : ℕ → ℕ → ℕ) (xs ys : List Call) → LoadsAgree of (xs
 load_back of [] ys a = a
 load_back of (x ∷ xs) ys a = load_back of xs ys a.1
 
-around_loads : (of : ℕ → ℕ → ℕ) (label : Label) (labels : List Label) (action : Option ℕ) (calls : List Call) → LoadsAgree of (around label labels action calls) → LoadsAgree of calls
-around_loads of label labels None calls a = a
-around_loads of label labels (Some number) calls a = load_front of calls (Enters label labels ∷ []) a.1
+around_loads : (of : ℕ → ℕ → ℕ) (label : Label) (labels : List Label) (met : Option (List ℕ)) (action : Option ℕ) (calls : List Call) → LoadsAgree of (around label labels met action calls) → LoadsAgree of calls
+around_loads of label labels met None calls a = a
+around_loads of label labels met (Some number) calls a = load_front of calls (entering label labels met) a.1
 
 doings_loads : (of : ℕ → ℕ → ℕ) (ds : List Doing) → LoadsAgree of (doings_calls ds) → AllLoadsAgree of (parts_in ds)
 doings_loads of [] a = tt
 doings_loads of (d ∷ ds) a = (
-  around_loads of d.label d.labels (action_of d.part.deed) (part_calls d.part) (load_back of (doings_calls ds) (doing_calls d) a),
+  around_loads of d.label d.labels d.met (action_of d.part.deed) (part_calls d.part) (load_back of (doings_calls ds) (doing_calls d) a),
   doings_loads of ds (load_front of (doings_calls ds) (doing_calls d) a),
 )
 

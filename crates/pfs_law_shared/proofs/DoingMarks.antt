@@ -11,7 +11,7 @@ use Rattle.pfs_session.specs.SessionStates.{State}
 use Rattle.pfs_session.specs.Turns.{state_after}
 use Rattle.pfs_law_session.specs.Deeds.{action_of, part_calls}
 use Rattle.pfs_law_session.specs.JournalLaws.{AreParts}
-use Rattle.pfs_law_plain.specs.Spells.{Doing, around, doing_calls, doings_calls, parts_in, label_of, AreEntered}
+use Rattle.pfs_law_plain.specs.Spells.{Doing, around, entering, doing_calls, doings_calls, parts_in, label_of, AreEntered}
 use Rattle.pfs_law_joint.specs.Phases.{AreWhole}
 use Rattle.pfs_law_joint.specs.Versions.{at_mark, at_set}
 use Rattle.pfs_law_shared.proofs.InnerCalls.{AreWithin, turns_within, calls_within}
@@ -56,6 +56,11 @@ AreCounted (d ∷ ds) = IfSome (action_of d.part.deed) (λ number. number ≡ le
 numbered : (action : Option ℕ) (s : State) (label : Label) (labels : List Label) → IfSome action (λ number. (number ≡ length labels + 1) × (label ≡ label_of s)) → IfSome action (λ number. number ≡ length labels + 1)
 numbered None s label labels e = tt
 numbered (Some number) s label labels e = e.0
+
+-- the action that such a beginning enters
+pub entering_action : (past : List Call) (label : Label) (labels : List Label) (met : Option (List ℕ)) → action_in (entering label labels met ++ past) ≡ length labels + 1
+entering_action past label labels None = refl
+entering_action past label labels (Some versions) = refl
 
 entered_counted : (s : State) (ds : List Doing) → AreEntered s ds → AreCounted ds
 entered_counted s [] entered = tt
@@ -154,22 +159,26 @@ module _ (g : At → ℕ → ℕ) where
   abbrev pub doing_sets : Doing → ℕ
   doing_sets d = total (λ s. g (at_set s) (number_of (action_of d.part.deed))) (sets_of (part_calls d.part))
 
-  around_marks : (label : Label) (labels : List Label) (action : Option ℕ) (calls : List Call) → AreWithin calls → IfSome action (λ number. number ≡ length labels + 1)
-      → total acted (marks_of (around label labels action calls)) ≡ own_number action + total (λ x. g x (number_of action)) (changes_of calls)
+  around_marks : (label : Label) (labels : List Label) (met : Option (List ℕ)) (action : Option ℕ) (calls : List Call) → AreWithin calls → IfSome action (λ number. number ≡ length labels + 1)
+      → total acted (marks_of (around label labels met action calls)) ≡ own_number action + total (λ x. g x (number_of action)) (changes_of calls)
   unfolding total marks_of
-  around_marks label labels None calls w e =
+  around_marks label labels met None calls w e =
       let here : total acted (marks_of (calls ++ [])) ≡ total (λ x. g x 0) (changes_of calls) = within_marks 0 [] calls w refl refl in
       let same = ap (λ z. total acted (marks_of z)) (append-nil calls) in
       omega (arith, here, same)
-  around_marks label labels (Some number) calls w e =
-      let here = within_marks number (Enters label labels ∷ []) calls w (sym e) refl in
-      omega (arith, here, ap (λ n. g (at_put 0 n) n) (within_action calls (Enters label labels ∷ []) w ∙ sym e))
+  around_marks label labels None (Some number) calls w e =
+      let here = within_marks number (entering label labels None) calls w (sym e) refl in
+      omega (arith, here, ap (λ n. g (at_put 0 n) n) (within_action calls (entering label labels None) w ∙ sym e))
+  around_marks label labels (Some versions) (Some number) calls w e =
+      let here = within_marks number (entering label labels (Some versions)) calls w (sym e) refl in
+      omega (arith, here, ap (λ n. g (at_put 0 n) n) (within_action calls (entering label labels (Some versions)) w ∙ sym e))
 
-  around_words : (label : Label) (labels : List Label) (action : Option ℕ) (calls : List Call) → AreWithin calls → IfSome action (λ number. number ≡ length labels + 1)
-      → total acted (word_marks_of (around label labels action calls)) ≡ total (λ s. g (at_set s) (number_of action)) (sets_of calls)
+  around_words : (label : Label) (labels : List Label) (met : Option (List ℕ)) (action : Option ℕ) (calls : List Call) → AreWithin calls → IfSome action (λ number. number ≡ length labels + 1)
+      → total acted (word_marks_of (around label labels met action calls)) ≡ total (λ s. g (at_set s) (number_of action)) (sets_of calls)
   unfolding total word_marks_of
-  around_words label labels None calls w e = sym (ap (λ z. total acted (word_marks_of z)) (append-nil calls)) ∙ within_words 0 [] calls w refl refl
-  around_words label labels (Some number) calls w e = within_words number (Enters label labels ∷ []) calls w (sym e) refl
+  around_words label labels met None calls w e = sym (ap (λ z. total acted (word_marks_of z)) (append-nil calls)) ∙ within_words 0 [] calls w refl refl
+  around_words label labels None (Some number) calls w e = within_words number (entering label labels None) calls w (sym e) refl
+  around_words label labels (Some versions) (Some number) calls w e = within_words number (entering label labels (Some versions)) calls w (sym e) refl
 
   abbrev pub doings_weigh : List Doing → ℕ
   doings_weigh [] = 0
@@ -184,9 +193,9 @@ module _ (g : At → ℕ → ℕ) where
   counted_marks s [] are counts = refl
   counted_marks s (d ∷ ds) are counts =
       let w = calls_within d.part.turns (turns_within s d.part.turns are.0.are_turns) in
-      let whole : AreWhole (doing_calls d) = around_whole d.label d.labels (action_of d.part.deed) (part_calls d.part) w in
+      let whole : AreWhole (doing_calls d) = around_whole d.label d.labels d.met (action_of d.part.deed) (part_calls d.part) w in
       let a = marks_then (doings_calls ds) (doing_calls d) whole.ended in
-      let b = around_marks d.label d.labels (action_of d.part.deed) (part_calls d.part) w counts.0 in
+      let b = around_marks d.label d.labels d.met (action_of d.part.deed) (part_calls d.part) w counts.0 in
       omega (arith, a, b, counted_marks (state_after s d.part.turns) ds are.1 counts.1)
 
   pub doings_marks : (s : State) (ds : List Doing) → AreParts s (parts_in ds) → AreEntered s ds → total acted (marks_of (doings_calls ds)) ≡ doings_weigh ds
@@ -197,7 +206,7 @@ module _ (g : At → ℕ → ℕ) where
   doings_words s [] are entered = refl
   doings_words s (d ∷ ds) are entered =
       let w = calls_within d.part.turns (turns_within s d.part.turns are.0.are_turns) in
-      let whole : AreWhole (doing_calls d) = around_whole d.label d.labels (action_of d.part.deed) (part_calls d.part) w in
+      let whole : AreWhole (doing_calls d) = around_whole d.label d.labels d.met (action_of d.part.deed) (part_calls d.part) w in
       let a = words_then (doings_calls ds) (doing_calls d) whole.ended in
-      let b = around_words d.label d.labels (action_of d.part.deed) (part_calls d.part) w (numbered (action_of d.part.deed) s d.label d.labels entered.0) in
+      let b = around_words d.label d.labels d.met (action_of d.part.deed) (part_calls d.part) w (numbered (action_of d.part.deed) s d.label d.labels entered.0) in
       omega (arith, a, b, doings_words (state_after s d.part.turns) ds are.1 entered.1)

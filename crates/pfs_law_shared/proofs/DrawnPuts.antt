@@ -1,11 +1,11 @@
 -- What a session prints of the long history: one put for each ticket that it drew, in their order, each at its place.
-use Rattle.std.proofs.Common.{ℕ, ◌≡◌, ◌+◌, ◌<◌, Bool, true, false, not, cond, ◌&&◌, List, [], ◌∷◌, ◌++◌, slice_index, Option, Some, None, inl, inr, refl, ap, sym, ◌∙◌, subst, arith, append_assoc, append-nil, le-leb}
+use Rattle.std.proofs.Common.{ℕ, ◌≡◌, ◌+◌, ◌<◌, ◌==◌, Bool, true, false, not, cond, ◌&&◌, List, [], ◌∷◌, ◌++◌, length, slice_index, Option, Some, None, inl, inr, refl, ap, sym, ◌∙◌, subst, arith, append_assoc, append-nil, le-leb, ne_eqb}
 use Rattle.std.specs.Prelude.{nat_le, ◌⊎◌}
 use Rattle.pfs_admin.specs.AdministrationStates.{seat_at}
 use Rattle.pfs_admin.specs.ConnectionAsks.{connect_entry, work_of_connect, work_of_quit}
 use Rattle.pfs_admin.specs.SetupStatements.{work_of_statement}
 use Rattle.pfs_admin.specs.Truncations.{work_of_truncation}
-use Rattle.pfs_admin.specs.Works.{Sign, Releases, Tags, Made, Flagging, Work, signs_calls, made_calls, flagging_calls}
+use Rattle.pfs_admin.specs.Works.{Sign, Releases, Tags, Made, Flagging, Work, signs_of, signs_calls, made_calls, flagging_calls}
 use Rattle.pfs_containers.specs.declared.containers.Seated.{Seated}
 use Rattle.pfs_event.specs.Verdicts.{is_let_through}
 use Rattle.pfs_event.specs.declared.entry.Entry.{Entry}
@@ -14,15 +14,15 @@ use Rattle.pfs_event.specs.declared.event.Event.{Event}
 use Rattle.pfs_event.specs.declared.open.Open.{Open}
 use Rattle.pfs_event.specs.declared.verdict.Verdict.{Verdict}
 use Rattle.pfs_levels.specs.Calls.{Call, Adds, Rings, Reads, Loads, Draws, Takes, Puts, Frees, Sets, Enters, Leaves, Meets, IsRing}
-use Rattle.pfs_levels.specs.JointCalls.{Draw, draws_by}
+use Rattle.pfs_levels.specs.JointCalls.{one_if, Draw, draws_by}
 use Rattle.pfs_levels.specs.Moves.{Gift, Move, gift_calls, move_calls, moves_calls}
 use Rattle.pfs_levels.specs.declared.answers.Added.{Added}
 use Rattle.pfs_levels.specs.declared.answers.Added.TheVariants.{Counted, Held}
 use Rattle.pfs_levels.specs.declared.answers.RingPut.{RingPut}
 use Rattle.pfs_levels.specs.declared.answers.RingPut.TheVariants as told
 use Rattle.pfs_levels.specs.declared.answers.Word.{Word}
-use Rattle.pfs_model.proofs.EachLists.{each_front, each_behind}
-use Rattle.pfs_model.specs.Causes.{long_row}
+use Rattle.pfs_model.proofs.EachLists.{each_join, each_front, each_behind}
+use Rattle.pfs_model.specs.Causes.{long_row, kind_of_row}
 use Rattle.pfs_model.specs.Chains.{Each}
 use Rattle.pfs_model.specs.Rings.{LongPut, long_put, is_reading_line, ring_number, current_row, history_row}
 use Rattle.pfs_model.specs.Shapes.{is_stage}
@@ -50,6 +50,8 @@ use Rattle.pfs_law_session.specs.Deeds.{Deed, Connecting, Starting, Staging, Sta
 use Rattle.pfs_law_plain.proofs.InnerEntries.{IsInner, AreInner, paid_same}
 use Rattle.pfs_law_plain.proofs.StepNotes.{IsActed, acted, truncated_acted, changed_acted}
 use Rattle.pfs_law_shared.specs.Tickets.{IsPlaced}
+use Rattle.pfs_law_shared.proofs.TicketedPuts.{word_of, rungs, rungs_then, AreTicketed, ticketed_then, IsBlank, kind_is}
+use Rattle.pfs_law_shared.proofs.UnticketedSigns.{IsUnticketed, connect_unticketed, quit_unticketed, truncation_unticketed}
 
 -- the puts that entries of a line print, and the tickets that calls draw, in order
 abbrev pub puts_in : Line → List Entry → List LongPut
@@ -84,31 +86,58 @@ match_then [] qs (d ∷ ds) es a b = absurd a
 match_then (p ∷ ps) qs [] es a b = absurd a
 match_then (p ∷ ps) qs (d ∷ ds) es a b = (a.0, match_then ps qs ds es a.1 b)
 
+-- how often entries print this ticket at a row, at versions that pass
+abbrev pub long_by : ℕ → ℕ → (ℕ → Bool) → Entry → ℕ
+long_by row ticket test (says.Long at version own) = one_if ((at == row) && (test version && (own == ticket)))
+long_by row ticket test _ = 0
+
+abbrev pub longs_in : ℕ → ℕ → (ℕ → Bool) → List Entry → ℕ
+longs_in row ticket test [] = 0
+longs_in row ticket test (e ∷ es) = long_by row ticket test e + longs_in row ticket test es
+
+longs_then : (row ticket : ℕ) (test : ℕ → Bool) (xs ys : List Entry) → longs_in row ticket test (xs ++ ys) ≡ longs_in row ticket test xs + longs_in row ticket test ys
+longs_then row ticket test [] ys = omega arith
+longs_then row ticket test (x ∷ xs) ys = omega (arith, longs_then row ticket test xs ys)
+
+-- what came late stands at the place of its ticket, which held a greater one
+abbrev pub IsAhead : Entry → Type 0
+IsAhead (says.Late row ticket greater) = (ticket < greater) × (row ≡ long_row (kind_of_row row) ticket)
+IsAhead _ = Unit {0}
+
 -- of a step's entries and calls
-abbrev IsDrawn : Line → List Call → List Entry → Type 0
-IsDrawn line calls entries = Each IsPlaced calls → Match (puts_in line entries) (drawn_in calls)
+pub record IsDrawn (line : Line) (calls : List Call) (entries : List Entry) : Type 0 where
+  pub match : Each IsPlaced calls → Match (puts_in line entries) (drawn_in calls)
+  pub ticketed : AreTicketed calls
+  pub blank : Each IsBlank calls
+  pub rung : (row ticket : ℕ) (test : ℕ → Bool) → longs_in row ticket test entries ≡ rungs row ticket test calls
+  pub ahead : Each IsAhead entries
 
 drawn_as : (line : Line) (calls cs : List Call) (entries es : List Entry) → calls ≡ cs → entries ≡ es → IsDrawn line cs es → IsDrawn line calls entries
 drawn_as line calls cs entries es p q d = subst (λ z. IsDrawn line z entries) (sym p) (subst (IsDrawn line cs) (sym q) d)
 
 drawn_both : (line : Line) (c1 c2 : List Call) (e1 e2 : List Entry) → IsDrawn line c1 e1 → IsDrawn line c2 e2 → IsDrawn line (c2 ++ c1) (e1 ++ e2)
-drawn_both line c1 c2 e1 e2 a b = λ placed.
-    subst (λ z. Match z (drawn_in (c2 ++ c1))) (sym (puts_then line e1 e2))
-    (subst (λ z. Match (puts_in line e1 ++ puts_in line e2) z) (sym (drawn_then c2 c1))
-    (match_then (puts_in line e1) (puts_in line e2) (drawn_in c1) (drawn_in c2) (a (each_behind IsPlaced c2 c1 placed)) (b (each_front IsPlaced c2 c1 placed))))
+drawn_both line c1 c2 e1 e2 a b = record {
+  match = λ placed. subst (λ z. Match z (drawn_in (c2 ++ c1))) (sym (puts_then line e1 e2))
+      (subst (λ z. Match (puts_in line e1 ++ puts_in line e2) z) (sym (drawn_then c2 c1))
+      (match_then (puts_in line e1) (puts_in line e2) (drawn_in c1) (drawn_in c2) (a.match (each_behind IsPlaced c2 c1 placed)) (b.match (each_front IsPlaced c2 c1 placed))));
+  ticketed = ticketed_then c2 c1 b.ticketed a.ticketed;
+  blank = each_join IsBlank c2 c1 b.blank a.blank;
+  rung = λ row ticket test. omega (arith, longs_then row ticket test e1 e2, rungs_then row ticket test c2 c1, a.rung row ticket test, b.rung row ticket test);
+  ahead = each_join IsAhead e1 e2 a.ahead b.ahead;
+}
 
 nothing_drawn : (line : Line) → IsDrawn line [] []
-nothing_drawn line = λ placed. tt
+nothing_drawn line = record { match = λ placed. tt; ticketed = tt; blank = tt; rung = λ row ticket test. refl; ahead = tt }
 
--- calls that draw nothing, and entries that print no put of the long history
+-- calls that draw nothing and put no ticket, and entries that print no put of the long history
 abbrev IsStill : Call → Type 0
 IsStill (Draws kind ticket) = ⊥
+IsStill (Rings row content answer) = ⊥
+IsStill (Puts row content version) = word_of content ≡ 0
 IsStill (Adds row amount answer) = Unit {0}
-IsStill (Rings row content answer) = Unit {0}
 IsStill (Reads row seen) = Unit {0}
 IsStill (Loads at version found) = Unit {0}
 IsStill (Takes row version found) = Unit {0}
-IsStill (Puts row content version) = Unit {0}
 IsStill (Frees row version) = Unit {0}
 IsStill (Sets at found version) = Unit {0}
 IsStill (Enters label labels) = Unit {0}
@@ -118,7 +147,7 @@ IsStill (Meets versions) = Unit {0}
 still_by : (call : Call) → IsStill call → draws_by call ≡ []
 still_by (Draws kind ticket) s = absurd s
 still_by (Adds row amount answer) s = refl
-still_by (Rings row content answer) s = refl
+still_by (Rings row content answer) s = absurd s
 still_by (Reads row seen) s = refl
 still_by (Loads at version found) s = refl
 still_by (Takes row version found) s = refl
@@ -152,15 +181,87 @@ inner_puts : (line : Line) (es : List Entry) → AreInner es → puts_in line es
 inner_puts line [] i = refl
 inner_puts line (e ∷ es) i = ap (λ z. z ++ puts_in line es) (inner_put line e i.0) ∙ inner_puts line es i.1
 
+still_ticketed : (calls : List Call) → Each IsStill calls → AreTicketed calls
+still_ticketed [] s = tt
+still_ticketed (Rings row content answer ∷ calls) s = absurd s.0
+still_ticketed (_ ∷ calls) s = (tt, still_ticketed calls s.1)
+
+still_blank : (calls : List Call) → Each IsStill calls → Each IsBlank calls
+still_blank [] s = tt
+still_blank (Puts row content version ∷ calls) s = (s.0, still_blank calls s.1)
+still_blank (_ ∷ calls) s = (tt, still_blank calls s.1)
+
+still_rung : (row ticket : ℕ) (test : ℕ → Bool) (calls : List Call) → Each IsStill calls → rungs row ticket test calls ≡ 0
+still_rung row ticket test [] s = refl
+still_rung row ticket test (Rings at content answer ∷ calls) s = absurd s.0
+still_rung row ticket test (_ ∷ calls) s = omega (arith, still_rung row ticket test calls s.1)
+
+-- an entry that prints none
+none_put : {A : Type 0} (x : A) (xs : List A) → x ∷ xs ≡ [] → ⊥
+none_put x xs e = absurd (omega (arith, ap length e))
+
+none_long : (row ticket : ℕ) (test : ℕ → Bool) (line : Line) (e : Entry) → long_put line e ≡ [] → long_by row ticket test e ≡ 0
+none_long row ticket test line (says.Long at version own) none = absurd (none_put _ _ none)
+none_long row ticket test line _ none = refl
+
+none_late : (line : Line) (e : Entry) → long_put line e ≡ [] → IsAhead e
+none_late line (says.Late row ticket greater) none = absurd (none_put _ _ none)
+none_late line _ none = tt
+
+first_none : {A : Type 0} (xs ys : List A) → xs ++ ys ≡ [] → xs ≡ []
+first_none [] ys e = refl
+first_none (x ∷ xs) ys e = absurd (none_put x (xs ++ ys) e)
+
+rest_none : {A : Type 0} (xs ys : List A) → xs ++ ys ≡ [] → ys ≡ []
+rest_none [] ys e = e
+rest_none (x ∷ xs) ys e = absurd (none_put x (xs ++ ys) e)
+
+none_longs : (row ticket : ℕ) (test : ℕ → Bool) (line : Line) (es : List Entry) → puts_in line es ≡ [] → longs_in row ticket test es ≡ 0
+none_longs row ticket test line [] none = refl
+none_longs row ticket test line (e ∷ es) none =
+    omega (arith, none_long row ticket test line e (first_none (long_put line e) (puts_in line es) none), none_longs row ticket test line es (rest_none (long_put line e) (puts_in line es) none))
+
+none_lates : (line : Line) (es : List Entry) → puts_in line es ≡ [] → Each IsAhead es
+none_lates line [] none = tt
+none_lates line (e ∷ es) none =
+    (none_late line e (first_none (long_put line e) (puts_in line es) none), none_lates line es (rest_none (long_put line e) (puts_in line es) none))
+
 quietly : (line : Line) (calls : List Call) (entries : List Entry) → puts_in line entries ≡ [] → Each IsStill calls → IsDrawn line calls entries
-quietly line calls entries none s = λ placed. subst (λ z. Match z (drawn_in calls)) (sym none) (subst (λ z. Match [] z) (sym (still_drawn calls s)) tt)
+quietly line calls entries none s = record {
+  match = λ placed. subst (λ z. Match z (drawn_in calls)) (sym none) (subst (λ z. Match [] z) (sym (still_drawn calls s)) tt);
+  ticketed = still_ticketed calls s;
+  blank = still_blank calls s;
+  rung = λ row ticket test. omega (arith, none_longs row ticket test line entries none, still_rung row ticket test calls s);
+  ahead = none_lates line entries none;
+}
+
+-- a word that is none of a ticket, and one that is
+no_ticket : (a b : Bool) (ticket : ℕ) → one_if (a && (b && (0 == ticket + 1))) ≡ 0
+no_ticket false b ticket = refl
+no_ticket true false ticket = refl
+no_ticket true true ticket = ap one_if (ne_eqb 0 (ticket + 1) (λ e. omega (arith, e)))
+
+same_ticket : (own ticket : ℕ) → (own == ticket) ≡ (own + 1 == ticket + 1)
+same_ticket own ticket = grind arith
 
 -- puts: a place of a thread is none of the long history
 short_drawn : (line : Line) → is_reading_line line ≡ false → (row : ℕ) (event : Event) (put : Put) (calls : List Call) → PutAt row None [] event put calls → IsDrawn line calls (put_entry put ∷ [])
 short_drawn line other row event put calls x = by_answer x.answer x.says x.calls_are where
   by_answer : (answer : RingPut) → Says row None answer put → calls ≡ Rings row (offered event None) answer ∷ [] → IsDrawn line calls (put_entry put ∷ [])
-  by_answer (told.Done version) e c = drawn_as line calls _ _ (says.Ring row version ∷ []) c (ap (λ z. put_entry z ∷ []) e) (λ placed. tt)
-  by_answer (told.Busy first second) e c = drawn_as line calls _ _ (says.Busy row first second ∷ []) c (ap (λ z. put_entry z ∷ []) e) (λ placed. low (nat_le 10242 row) refl placed.0) where
+  by_answer (told.Done version) e c = drawn_as line calls _ _ (says.Ring row version ∷ []) c (ap (λ z. put_entry z ∷ []) e) (record {
+    match = λ placed. tt;
+    ticketed = ((λ up. absurd (omega (arith, up))), tt);
+    blank = (tt, tt);
+    rung = λ at ticket test. (let none = no_ticket (row == at) (test version) ticket in omega (arith, none));
+    ahead = (tt, tt);
+  })
+  by_answer (told.Busy first second) e c = drawn_as line calls _ _ (says.Busy row first second ∷ []) c (ap (λ z. put_entry z ∷ []) e) (record {
+    match = λ placed. low (nat_le 10242 row) refl placed.0;
+    ticketed = (tt, tt);
+    blank = (tt, tt);
+    rung = λ at ticket test. refl;
+    ahead = (tt, tt);
+  }) where
     low : (b : Bool) → nat_le 10242 row ≡ b → IsRing row (offered event None) → Match (cond (not (is_reading_line line) && nat_le 10242 row) (record { row = row; ticket = None } ∷ []) [] ++ []) []
     low true q (inl r) = absurd (high row q r.1) where
       high : (n : ℕ) → nat_le 10242 n ≡ true → n < 10242 → ⊥
@@ -180,12 +281,28 @@ far_drawn line other kind event put calls x = by_answer x.at.answer x.at.says x.
   row = long_row kind x.ticket
 
   by_answer : (answer : RingPut) → Says row (Some x.ticket) answer put → calls ≡ Rings row (offered event (Some x.ticket)) answer ∷ Draws kind x.ticket ∷ [] → IsDrawn line calls (put_entry put ∷ [])
-  by_answer (told.Done version) e c = drawn_as line calls _ _ (says.Long row version x.ticket ∷ []) c (ap (λ z. put_entry z ∷ []) e) (λ placed. ((refl, inr refl), tt))
-  by_answer (told.Busy first second) e c =
-      drawn_as line calls _ _ (says.Busy row first second ∷ []) c (ap (λ z. put_entry z ∷ []) e)
-      (λ placed. subst (λ b. Match (cond (not b && nat_le 10242 row) (record { row = row; ticket = None } ∷ []) [] ++ []) (record { kind = kind; ticket = x.ticket } ∷ [])) (sym other)
-      (subst (λ b. Match (cond (true && b) (record { row = row; ticket = None } ∷ []) [] ++ []) (record { kind = kind; ticket = x.ticket } ∷ [])) (sym (le-leb 10242 row (omega arith))) ((refl, inl refl), tt)))
-  by_answer (told.Late greater version) e c = drawn_as line calls _ _ (says.Late row x.ticket greater ∷ []) c (ap (λ z. put_entry z ∷ []) e.0) (λ placed. ((refl, inr refl), tt))
+  by_answer (told.Done version) e c = drawn_as line calls _ _ (says.Long row version x.ticket ∷ []) c (ap (λ z. put_entry z ∷ []) e) (record {
+    match = λ placed. ((refl, inr refl), tt);
+    ticketed = ((λ up. (refl, refl)), (tt, tt));
+    blank = (tt, (tt, tt));
+    rung = λ at ticket test. (let same = ap (λ b. one_if ((row == at) && (test version && b))) (same_ticket x.ticket ticket) in omega (arith, same));
+    ahead = (tt, tt);
+  })
+  by_answer (told.Busy first second) e c = drawn_as line calls _ _ (says.Busy row first second ∷ []) c (ap (λ z. put_entry z ∷ []) e) (record {
+    match = λ placed. subst (λ b. Match (cond (not b && nat_le 10242 row) (record { row = row; ticket = None } ∷ []) [] ++ []) (record { kind = kind; ticket = x.ticket } ∷ [])) (sym other)
+        (subst (λ b. Match (cond (true && b) (record { row = row; ticket = None } ∷ []) [] ++ []) (record { kind = kind; ticket = x.ticket } ∷ [])) (sym (le-leb 10242 row (omega arith))) ((refl, inl refl), tt));
+    ticketed = (tt, (tt, tt));
+    blank = (tt, (tt, tt));
+    rung = λ at ticket test. refl;
+    ahead = (tt, tt);
+  })
+  by_answer (told.Late greater version) e c = drawn_as line calls _ _ (says.Late row x.ticket greater ∷ []) c (ap (λ z. put_entry z ∷ []) e.0) (record {
+    match = λ placed. ((refl, inr refl), tt);
+    ticketed = (((refl, refl), omega (arith, e.1)), (tt, tt));
+    blank = (tt, (tt, tt));
+    rung = λ at ticket test. refl;
+    ahead = ((e.1, ap (λ k. long_row k x.ticket) (sym (kind_is kind x.ticket))), tt);
+  })
 
 none_drawn : (line : Line) (put : Option Put) (calls : List Call) → (put ≡ None) × (calls ≡ []) → IsDrawn line calls (put_entries put)
 none_drawn line put calls x = drawn_as line calls [] (put_entries put) [] x.1 (ap put_entries x.0) (nothing_drawn line)
@@ -255,39 +372,40 @@ module _ (line : Line) (other : is_reading_line line ≡ false) where
 
   ends_drawn : (s : State) (slot : Option ℕ) (b : Bool) (what : Open) (others : List Open) (numbers : Numbers) (calls : List Call) (entries : List Entry) (after : State) → EndsIn s slot b what others numbers calls entries after
       → IsDrawn line calls entries
-  ends_drawn s slot false what others numbers calls entries after x = drawn_as line calls [] entries _ x.calls_are x.entries_are (λ placed. tt)
+  ends_drawn s slot false what others numbers calls entries after x = quietly line calls entries (ap (puts_in line) x.entries_are) (subst (Each IsStill) (sym x.calls_are) tt)
   ends_drawn s None true what others numbers calls entries after x = absurd x
   ends_drawn s (Some slot) true what others numbers calls entries after x = through_drawn s slot what others numbers calls entries after x
 
 -- actions
 gifts_still : (amount : Stat) (gs : List Gift) → Each IsStill (gift_calls amount gs)
 gifts_still amount [] = tt
-gifts_still amount (g ∷ gs) = still_then (gift_calls amount gs) _ (gifts_still amount gs) (tt, (tt, tt))
+gifts_still amount (g ∷ gs) = still_then (gift_calls amount gs) _ (gifts_still amount gs) (refl, (tt, tt))
 
 moves_still : (ms : List Move) → Each IsStill (moves_calls ms)
 moves_still [] = tt
-moves_still (m ∷ ms) = still_then (move_calls m) (moves_calls ms) (still_then (gift_calls _ m.gifts) _ (gifts_still _ m.gifts) (tt, (tt, tt))) (moves_still ms)
+moves_still (m ∷ ms) = still_then (move_calls m) (moves_calls ms) (still_then (gift_calls _ m.gifts) _ (gifts_still _ m.gifts) (refl, (tt, tt))) (moves_still ms)
 
-made_still : (sign : Sign) (version : ℕ) (found : List ℕ) → Each IsStill (made_calls (record { sign = sign; version = version; found = found }))
-made_still (Releases row) version found = (tt, (tt, tt))
-made_still (Tags row content) version found = (tt, (tt, tt))
+made_still : (sign : Sign) (version : ℕ) (found : List ℕ) → IsUnticketed sign → Each IsStill (made_calls (record { sign = sign; version = version; found = found }))
+made_still (Releases row) version found b = (tt, (tt, tt))
+made_still (Tags row content) version found b = (b, (tt, tt))
 
-signs_still : (ms : List Made) → Each IsStill (signs_calls ms)
-signs_still [] = tt
-signs_still (m ∷ ms) = still_then (made_calls m) (signs_calls ms) (made_still m.sign m.version m.found) (signs_still ms)
+signs_still : (ms : List Made) → Each IsUnticketed (signs_of ms) → Each IsStill (signs_calls ms)
+signs_still [] b = tt
+signs_still (m ∷ ms) b =
+    still_then (made_calls m) (signs_calls ms) (made_still m.sign m.version m.found (each_behind IsUnticketed (signs_of ms) (m.sign ∷ []) b).0) (signs_still ms (each_front IsUnticketed (signs_of ms) (m.sign ∷ []) b))
 
 sets_still : (words : List Word) (fs : List Flagging) → Each IsStill (flagging_calls words fs)
 sets_still words [] = tt
 sets_still words (f ∷ fs) = still_then (flagging_calls words fs) (Sets f.word f.flags _ ∷ []) (sets_still words fs) (tt, tt)
 
-works_still : (work : Work) (words : List Word) (head : List Entry) (calls : List Call) (entries : List Entry) → Works work words head calls entries → Each IsStill calls
-works_still work words head calls entries w =
+works_still : (work : Work) (words : List Word) (head : List Entry) (calls : List Call) (entries : List Entry) → Each IsUnticketed work.signs → Works work words head calls entries → Each IsStill calls
+works_still work words head calls entries b w =
     subst (Each IsStill) (sym w.calls_are)
-    (still_then (flagging_calls words work.flags) (signs_calls w.made ++ moves_calls w.moves) (sets_still words work.flags) (still_then (signs_calls w.made) (moves_calls w.moves) (signs_still w.made) (moves_still w.moves)))
+    (still_then (flagging_calls words work.flags) (signs_calls w.made ++ moves_calls w.moves) (sets_still words work.flags) (still_then (signs_calls w.made) (moves_calls w.moves) (signs_still w.made (subst (Each IsUnticketed) (sym w.signs_are) b)) (moves_still w.moves)))
 
 paid_still : (ps : List Paid) → Each IsStill (paid_calls ps)
 paid_still [] = tt
-paid_still (p ∷ ps) = still_then (pay_calls p) (paid_calls ps) (tt, (tt, tt)) (paid_still ps)
+paid_still (p ∷ ps) = still_then (pay_calls p) (paid_calls ps) (refl, (tt, tt)) (paid_still ps)
 
 settle_puts : (line : Line) (owed : List Owed) (ps : List Paid) → puts_in line (settle_head owed ++ paid_entries ps) ≡ []
 settle_puts line [] ps = inner_puts line (paid_entries ps) (paid_same ps).inner
@@ -338,16 +456,16 @@ does_drawn line s SettlesHeld calls entries after at d = quietly line calls entr
 does_drawn line s (Connects admin user host) calls entries after at d =
     let head : Entry = connect_entry (admin.actions + 1) (seat_at admin s.number user host) in
     quietly line calls entries (acted_puts line head calls entries (connect_put line (admin.actions + 1) (seat_at admin s.number user host)) (acted (work_of_connect admin s.number user host) admin.words head calls entries d.0))
-    (works_still (work_of_connect admin s.number user host) admin.words (head ∷ []) calls entries d.0)
+    (works_still (work_of_connect admin s.number user host) admin.words (head ∷ []) calls entries (connect_unticketed admin s.number user host) d.0)
 does_drawn line s (Quits admin) calls entries after at d =
     quietly line calls entries (acted_puts line (says.Act (admin.actions + 1)) calls entries refl (acted (work_of_quit admin s.number) admin.words (says.Act (admin.actions + 1)) calls entries d.0))
-    (works_still (work_of_quit admin s.number) admin.words (says.Act (admin.actions + 1) ∷ []) calls entries d.0)
+    (works_still (work_of_quit admin s.number) admin.words (says.Act (admin.actions + 1) ∷ []) calls entries (quit_unticketed admin s.number) d.0)
 does_drawn line s (Truncates admin what) calls entries after at d =
     quietly line calls entries (acted_puts line (says.Act (admin.actions + 1)) calls entries refl (truncated_acted s admin what calls entries after d))
-    (works_still (work_of_truncation admin what) admin.words (says.Act (admin.actions + 1) ∷ []) calls d.changes d.works)
+    (works_still (work_of_truncation admin what) admin.words (says.Act (admin.actions + 1) ∷ []) calls d.changes (truncation_unticketed admin what) d.works)
 does_drawn line s (Changes admin what) calls entries after at d =
     quietly line calls entries (acted_puts line (says.Act (admin.actions + 1)) calls entries refl (changed_acted s admin what calls entries after d))
-    (works_still (work_of_statement admin what) admin.words (says.Act (admin.actions + 1) ∷ []) calls d.changes d.works)
+    (works_still (work_of_statement admin what) admin.words (says.Act (admin.actions + 1) ∷ []) calls d.changes tt d.works)
 does_drawn line s (Inquires what) calls entries after at d =
     quietly line calls entries (ap (puts_in line) d.entries_are ∙ inquiry_puts line what at) (subst (Each IsStill) (sym d.calls_are) (inquiry_still what))
 
@@ -388,5 +506,5 @@ deed_at s (Querying found count) = (tt, at_then (line_of (Querying found count))
 deed_at s (Refusing error) = (tt, tt)
 deed_at s Closing = (tt, tt)
 
-pub part_drawn : (s : State) (p : Part) → IsPart s p → Each IsPlaced (part_calls p) → Match (puts_in (line_of p.deed) (part_entries p)) (drawn_in (part_calls p))
-part_drawn s p is placed = turns_drawn (line_of p.deed) s p.turns is.are_turns (subst (AreAt (line_of p.deed)) (sym is.steps_are) (deed_at s p.deed)) placed
+pub part_drawn : (s : State) (p : Part) → IsPart s p → IsDrawn (line_of p.deed) (part_calls p) (part_entries p)
+part_drawn s p is = turns_drawn (line_of p.deed) s p.turns is.are_turns (subst (AreAt (line_of p.deed)) (sym is.steps_are) (deed_at s p.deed))

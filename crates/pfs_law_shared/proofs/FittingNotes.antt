@@ -1,31 +1,34 @@
 -- What a session's notes keep, as its journal counts it: each is above, or not below, all that its session knew, and what
 -- was refused or found free has its cause.
-use Rattle.std.proofs.Common.{ℕ, ◌≡◌, ◌+◌, ◌/◌, ◌%◌, ◌<◌, ◌≤◌, ◌==◌, Bool, true, false, cond, List, [], ◌∷◌, ◌++◌, inl, inr, refl, ap, sym, subst, arith, append_assoc, eqb-true}
+use Rattle.std.proofs.Common.{ℕ, ◌≡◌, ◌+◌, ◌/◌, ◌%◌, ◌<◌, ◌≤◌, ◌==◌, Bool, true, false, cond, List, [], ◌∷◌, ◌++◌, Option, Some, None, inl, inr, refl, ap, sym, subst, arith, append_assoc, eqb-true}
 use Rattle.std.proofs.Math.Nat.{max-le}
 use Rattle.std.proofs.lemmas.Bool.{cases_lt}
 use Rattle.pfs_board.specs.declared.view.Label.{Label}
 use Rattle.std.specs.Prelude.{◌≢◌, ◌⊎◌, max}
 use Rattle.pfs_levels.specs.declared.answers.Added.TheVariants.{Counted, Held}
 use Rattle.pfs_levels.specs.declared.answers.RingPut.TheVariants.{Done, Busy, Late}
-use Rattle.pfs_levels.specs.Calls.{Call, Adds, Rings, Reads, Loads, Draws, Takes, Puts, Frees, Sets, Enters, Leaves, Meets, after_in}
+use Rattle.pfs_levels.specs.Calls.{Call, Adds, Rings, Reads, Loads, Draws, Takes, Puts, Frees, Sets, Enters, Leaves, Meets, IsRow, after_in}
 use Rattle.pfs_levels.specs.CallOrder.{AllCalls, all_marks, all_word_marks, above, reaching, freed, marked, published, released, top_in, top_word}
 use Rattle.pfs_levels.specs.CallOrder.{AreRising as CallsRise, IsRising}
 use Rattle.pfs_levels.specs.JointCalls.{changes_of, count, sets_of, word_version, frees_at, all_calls}
 use Rattle.pfs_model.specs.Actions.{IsAmong}
-use Rattle.pfs_model.specs.Causes.{AreBusy, by_others}
+use Rattle.pfs_model.specs.Causes.{AreBusy, by_others, long_row, kind_of_row}
 use Rattle.pfs_model.specs.Chains.{Each, times, change_at, row_change, word_change, release_of, each_of, is_of, opens_free, is_free_after}
 use Rattle.pfs_model.specs.EntryPlaces.{Placed, before_phase, up_to_phase}
 use Rattle.pfs_model.specs.Floors.{by_actions, greatest}
 use Rattle.pfs_model.specs.declared.changes.Change.{Change}
 use Rattle.pfs_rows.specs.declared.table.Seen.TheVariants as sees
 use Rattle.pfs_law_plain.specs.Notes.{Note, Wrote, Freed, Found, Vacant, Refused, Overdue, Switched, Saw, Acted, told, all_told}
-use Rattle.pfs_law_joint.specs.Causes.{IsOthers, WasOthers, WasFree, HasCause, CausesLaw}
+use Rattle.pfs_law_plain.specs.Spells.{entering}
+use Rattle.pfs_law_joint.specs.Causes.{IsOthers, WasOthers, WasLate, WasFree, HasCause, CausesLaw}
 use Rattle.pfs_law_joint.specs.Floors.{IsAbove, IsNotBelow, IsUnreleased, IsSetAbove, IsLoadedAbove, Keeps, FloorsLaw}
 use Rattle.pfs_law_joint.specs.Phases.{IsShared, HaveEnded, AreWhole, Moment, phase_of, others_of, WereDone, Names, NamesWord, HadLaw, WordHadLaw}
 use Rattle.pfs_law_joint.proofs.NamedVersions.{row_grows, rows_named, words_named}
 use Rattle.pfs_law_shared.specs.Order.{IsNear}
 use Rattle.pfs_law_shared.proofs.InnerCalls.{AreWithin}
 use Rattle.pfs_law_shared.proofs.NamedNotes.{onto_rows, onto_words, onto_rows_then, onto_words_then, AllFit, fit_then}
+use Rattle.pfs_law_shared.proofs.PrintedPuts.{longs_of}
+use Rattle.pfs_law_shared.proofs.TicketedPuts.{word_of}
 
 -- entries of a phase, and a session of it; and up to which action it knows all as ended
 module _ (all : List Placed) (phase session done : ℕ) where
@@ -86,6 +89,16 @@ module _ (all : List Placed) (phase session done : ℕ) where
     pub up : IsUp rows row version
     pub stood : ((opens_free row ≡ true) × (version ≡ 0)) ⊎ WasFreed row version
 
+  -- another's line put this ticket there at this version
+  pub record IsPut (row version ticket : ℕ) : Type 0 where
+    pub same : row ≡ long_row (kind_of_row row) ticket
+    pub put : 0 < longs_of row ticket (λ k. k == version) (by_others session (up_to_phase phase all))
+
+  pub record IsOverdue (rows : List Change) (row greater : ℕ) : Type 0 where
+    pub version : ℕ
+    pub up : IsUp rows row version
+    pub is_put : IsPut row version greater
+
   abbrev pub Fits : List Change → List Change → Note → Type 0
   Fits rows words (Wrote row version) = IsOver rows row version
   Fits rows words (Found row version) = IsRead rows row version
@@ -94,7 +107,7 @@ module _ (all : List Placed) (phase session done : ℕ) where
   Fits rows words (Vacant row) = IsVacant rows row
   Fits rows words (Saw word version) = IsLoaded words word version
   Fits rows words (Switched word version flags) = IsLoaded words word version
-  Fits rows words (Overdue row ticket) = Unit {0}
+  Fits rows words (Overdue row greater) = IsOverdue rows row greater
   Fits rows words (Acted number) = Unit {0}
 
 -- what is printed, as the actors' calls have it
@@ -183,8 +196,11 @@ under_step rows words (Enters label labels) calls rise u = (old_row rows words (
 under_step rows words Leaves calls rise u = (old_row rows words Leaves calls rise u, old_word rows words Leaves calls rise u)
 
 -- a call that begins or ends an action names nothing new
-pub under_enters : (rows words : List Change) (label : Label) (labels : List Label) (calls : List Call) → CallsRise (Enters label labels ∷ calls) → IsUnder rows words calls → IsUnder rows words (Enters label labels ∷ calls)
-under_enters rows words label labels calls rise u = under_step rows words (Enters label labels) calls rise u
+pub under_entering : (rows words : List Change) (label : Label) (labels : List Label) (met : Option (List ℕ)) (calls : List Call) → CallsRise (entering label labels met ++ calls) → IsUnder rows words calls
+    → IsUnder rows words (entering label labels met ++ calls)
+under_entering rows words label labels None calls rise u = under_step rows words (Enters label labels) calls rise u
+under_entering rows words label labels (Some versions) calls rise u =
+    under_step rows words (Meets versions) (Enters label labels ∷ calls) rise (under_step rows words (Enters label labels) calls rise.1 u)
 
 pub under_leaves : (rows words : List Change) (calls : List Call) → CallsRise (Leaves ∷ calls) → IsUnder rows words calls → IsUnder rows words (Leaves ∷ calls)
 under_leaves rows words calls rise u = under_step rows words Leaves calls rise u
@@ -291,31 +307,43 @@ module _ (before : List (List Call)) (all : List Placed) (phase session done : �
     stood = p.stood row w.version up w.stood;
   }
 
+  is_overdue : (content : ℕ → ℕ → List ℕ) (row greater v : ℕ) → WasLate content before m done row greater v → IsPut all phase session done row v greater → IsOverdue all phase session done rows row greater
+  is_overdue content row greater v w put = record {
+    version = v;
+    up = record { began = omega (arith, w.began, p.began row); own = omega (arith, w.own, u.0 row); given = p.above_is row v w.given };
+    is_put = put;
+  }
+
   call_fits : (content : ℕ → ℕ → List ℕ) (call : Call) → IsNear call → Keeps before m done call → HasCause content before m done call → ((row v : ℕ) → 0 < row → Names call row v → v ≤ last_of row)
-      → ((word v : ℕ) → word < 160 → NamesWord call word v → v ≤ last_set word) → AllFit F rows words (told call)
-  call_fits content (Adds at amount (Counted r v)) near k c had set_had = (is_over r v (k near.0) (had r v near.0 (refl, refl)), tt)
-  call_fits content (Adds at amount (Held r v w)) near k c had set_had = (is_refused r v w near.0 (c near.0), tt)
-  call_fits content (Rings at put (Done v)) near k c had set_had = (is_over at v (k near.0) (had at v near.0 (refl, refl)), tt)
-  call_fits content (Rings at put (Busy v w)) near k c had set_had = (is_refused at v w near.0 (c near.0), tt)
-  call_fits content (Rings at put (Late t v)) near k c had set_had = (tt, tt)
-  call_fits content (Reads at (sees.Whole v found)) near k c had set_had = (is_read at v near.0 (k near.0).0 (k near.0).1 (had at v near.0 (refl, refl)), tt)
-  call_fits content (Reads at (sees.Free w)) near k c had set_had = (is_vacant at w near.0 c, tt)
-  call_fits content (Reads at (sees.Busy v w)) near k c had set_had = (is_refused at v w near.0 (c near.0), tt)
-  call_fits content (Loads at v found) near k c had set_had = (is_loaded at v near k (set_had at v near (refl, refl)), tt)
-  call_fits content (Draws kind ticket) near k c had set_had = tt
-  call_fits content (Meets versions) near k c had set_had = tt
-  call_fits content (Takes at v found) near k c had set_had = tt
-  call_fits content (Puts at put v) near k c had set_had = (is_over at v (k near.0) (had at v near.0 (refl, refl)), tt)
-  call_fits content (Frees at v) near k c had set_had = (is_freed at v (k near.0) (had at v near.0 (refl, refl)), tt)
-  call_fits content (Sets at to v) near k c had set_had = (is_set at v near k (set_had at v near (refl, refl)), tt)
-  call_fits content (Enters label labels) near k c had set_had = (tt, tt)
-  call_fits content Leaves near k c had set_had = tt
+      → ((word v : ℕ) → word < 160 → NamesWord call word v → v ≤ last_set word)
+      → ((row greater v : ℕ) (put : List ℕ) → call ≡ Rings row put (Late greater v) → IsRow row → word_of (content row v) ≡ greater + 1 → v ≤ last_of row → IsPut all phase session done row v greater) → AllFit F rows words (told call)
+  call_fits content (Adds at amount (Counted r v)) near k c had set_had late = (is_over r v (k near.0) (had r v near.0 (refl, refl)), tt)
+  call_fits content (Adds at amount (Held r v w)) near k c had set_had late = (is_refused r v w near.0 (c near.0), tt)
+  call_fits content (Rings at put (Done v)) near k c had set_had late = (is_over at v (k near.0) (had at v near.0 (refl, refl)), tt)
+  call_fits content (Rings at put (Busy v w)) near k c had set_had late = (is_refused at v w near.0 (c near.0), tt)
+  call_fits content (Rings at put (Late t v)) near k c had set_had late =
+      let w = c near.0 in
+      (is_overdue content at t v w (late at t v put refl near w.holds w.had), tt)
+  call_fits content (Reads at (sees.Whole v found)) near k c had set_had late = (is_read at v near.0 (k near.0).0 (k near.0).1 (had at v near.0 (refl, refl)), tt)
+  call_fits content (Reads at (sees.Free w)) near k c had set_had late = (is_vacant at w near.0 c, tt)
+  call_fits content (Reads at (sees.Busy v w)) near k c had set_had late = (is_refused at v w near.0 (c near.0), tt)
+  call_fits content (Loads at v found) near k c had set_had late = (is_loaded at v near k (set_had at v near (refl, refl)), tt)
+  call_fits content (Draws kind ticket) near k c had set_had late = tt
+  call_fits content (Meets versions) near k c had set_had late = tt
+  call_fits content (Takes at v found) near k c had set_had late = tt
+  call_fits content (Puts at put v) near k c had set_had late = (is_over at v (k near.0) (had at v near.0 (refl, refl)), tt)
+  call_fits content (Frees at v) near k c had set_had late = (is_freed at v (k near.0) (had at v near.0 (refl, refl)), tt)
+  call_fits content (Sets at to v) near k c had set_had late = (is_set at v near k (set_had at v near (refl, refl)), tt)
+  call_fits content (Enters label labels) near k c had set_had late = (tt, tt)
+  call_fits content Leaves near k c had set_had late = tt
 
 -- an actor among those of its phase, and what is printed of all of them
 pub record Scene (flags : List ℕ) (all : List Placed) (phase session done : ℕ) (before front behind : List (List Call)) (own : List Call) : Type 0 where
   pub shared : IsShared flags before (front ++ own ∷ behind)
   pub whole : AllCalls AreWhole (front ++ own ∷ behind)
   pub printed : Printed all phase session done before (front ++ own ∷ behind) (front ++ behind)
+  pub late : (later earlier : List Call) (row greater version : ℕ) (put : List ℕ) → own ≡ later ++ Rings row put (Late greater version) ∷ earlier → IsRow row → word_of (shared.content row version) ≡ greater + 1
+      → version ≤ count (changes_of (all_calls ((front ++ own ∷ behind) ++ before))) row → IsPut all phase session done row version greater
 
 -- what an actor's calls tell inside an action, or outside of any
 module _ (floors : FloorsLaw) (causes : CausesLaw) (rows_had : HadLaw) (words_had : WordHadLaw) (flags : List ℕ) (all : List Placed) (phase session done : ℕ) (before front behind : List (List Call)) (ended : HaveEnded before) where
@@ -334,7 +362,8 @@ module _ (floors : FloorsLaw) (causes : CausesLaw) (rows_had : HadLaw) (words_ha
       let set : List Change = onto_words (all_told ys) words in
       let here : AllFit F mine set (told c) =
       call_fits before all phase session done m scene.printed mine set r.1 scene.shared.content c near.0 (floors flags before m done scene.shared ended scene.whole so) (causes flags before m done scene.shared ended scene.whole so)
-      (λ row v up names. rows_had flags before m row v scene.shared up names) (λ word v low names. words_had flags before m word v scene.shared low names) in (
+      (λ row v up names. rows_had flags before m row v scene.shared up names) (λ word v low names. words_had flags before m word v scene.shared low names)
+      (λ row greater v put e. scene.late later (ys ++ base) row greater v put (ap (λ z. later ++ z ∷ (ys ++ base)) e)) in (
         fit_then F rows words (all_told ys) (told c) r.0 here,
         subst (λ z. IsUnder z (onto_words (all_told ys ++ told c) words) (c ∷ (ys ++ base))) (sym (onto_rows_then (all_told ys) (told c) rows))
             (subst (λ z. IsUnder (onto_rows (told c) mine) z (c ∷ (ys ++ base))) (sym (onto_words_then (all_told ys) (told c) words)) (under_step mine set c (ys ++ base) rise r.1)),

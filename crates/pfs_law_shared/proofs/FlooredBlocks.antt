@@ -19,7 +19,7 @@ use Rattle.pfs_law_session.specs.Deeds.{action_of, line_of, part_calls, part_ent
 use Rattle.pfs_law_session.specs.JournalLaws.{AreParts, lines_of, entries_of}
 use Rattle.pfs_law_plain.specs.Notes.{Note, all_told, notes_of}
 use Rattle.pfs_law_plain.specs.SessionNotes.{Sits, ToldLaw, turns_notes}
-use Rattle.pfs_law_plain.specs.Spells.{Doing, around, doing_calls, doings_calls, parts_in}
+use Rattle.pfs_law_plain.specs.Spells.{Doing, around, entering, doing_calls, doings_calls, parts_in}
 use Rattle.pfs_law_plain.specs.Weights.{WeighedLaw}
 use Rattle.pfs_law_joint.specs.Causes.{CausesLaw}
 use Rattle.pfs_law_joint.specs.Floors.{FloorsLaw}
@@ -27,8 +27,9 @@ use Rattle.pfs_law_joint.specs.Phases.{HaveEnded, WereDone, HadLaw, WordHadLaw}
 use Rattle.pfs_law_joint.proofs.NamedVersions.{row_grows, rises_back}
 use Rattle.pfs_law_shared.specs.Order.{IsNear}
 use Rattle.pfs_law_shared.proofs.ActionNotes.{act_by}
-use Rattle.pfs_law_shared.proofs.DoingMarks.{AreCounted, within_action}
-use Rattle.pfs_law_shared.proofs.FittingNotes.{Fits, IsUnder, Scene, calls_fit, under_enters, under_leaves, within_after}
+use Rattle.pfs_law_shared.proofs.DoingMarks.{AreCounted, within_action, entering_action}
+use Rattle.pfs_law_shared.proofs.DrawnPuts.{part_drawn}
+use Rattle.pfs_law_shared.proofs.FittingNotes.{Fits, IsUnder, Scene, calls_fit, under_entering, under_leaves, within_after}
 use Rattle.pfs_law_shared.proofs.FlooredLines.{AreBound, AreWalked, passed, walked_then, part_walked, done_kept}
 use Rattle.pfs_law_shared.proofs.InnerCalls.{AreWithin, turns_within, calls_within}
 use Rattle.pfs_law_shared.proofs.NamedNotes.{onto_rows, onto_words, unacted, turns_unacted, AllFit, fit_acted, fit_unacted, rows_unacted, words_unacted}
@@ -122,38 +123,40 @@ pub record IsBehind (bound : ℕ → ℕ) (phase : ℕ) (past : List Call) (done
   pub known : (done ≤ after_in past) ⊎ (done ≤ bound phase)
   pub later : (h : ℕ) → phase < h → done ≤ bound h
 
-around_behind : (bound : ℕ → ℕ) (phase : ℕ) (label : Label) (labels : List Label) (action : Option ℕ) (calls past : List Call) (done : ℕ) → AreWithin calls → IfSome action (λ number. number ≡ length labels + 1)
-    → ((h : ℕ) → phase < h → IfSome action (λ number. number ≤ bound h)) → IsBehind bound phase past done → IsBehind bound phase (around label labels action calls ++ past) (next_done action done)
-around_behind bound phase label labels None calls past done w counts low b = record { known = subst (λ n. (done ≤ n) ⊎ (done ≤ bound phase)) (sym (within_after calls past w)) b.known; later = b.later }
-around_behind bound phase label labels (Some number) calls past done w counts low b =
-    let e : action_in ((calls ++ Enters label labels ∷ []) ++ past) ≡ length labels + 1 = ap action_in (append_assoc calls (Enters label labels ∷ []) past) ∙ within_action calls (Enters label labels ∷ past) w in
+around_behind : (bound : ℕ → ℕ) (phase : ℕ) (label : Label) (labels : List Label) (met : Option (List ℕ)) (action : Option ℕ) (calls past : List Call) (done : ℕ) → AreWithin calls → IfSome action (λ number. number ≡ length labels + 1)
+    → ((h : ℕ) → phase < h → IfSome action (λ number. number ≤ bound h)) → IsBehind bound phase past done → IsBehind bound phase (around label labels met action calls ++ past) (next_done action done)
+around_behind bound phase label labels met None calls past done w counts low b = record { known = subst (λ n. (done ≤ n) ⊎ (done ≤ bound phase)) (sym (within_after calls past w)) b.known; later = b.later }
+around_behind bound phase label labels met (Some number) calls past done w counts low b =
+    let e : action_in ((calls ++ entering label labels met) ++ past) ≡ length labels + 1 =
+    ap action_in (append_assoc calls (entering label labels met) past) ∙ (within_action calls (entering label labels met ++ past) w ∙ entering_action past label labels met) in
     record { known = inl (omega (arith, e, counts)); later = low }
 
 module _ (floors : FloorsLaw) (causes : CausesLaw) (rows_had : HadLaw) (words_had : WordHadLaw) (told : ToldLaw) (weighed : WeighedLaw) (flags : List ℕ) (all : List Placed) (phase session : ℕ) (bound : ℕ → ℕ)
     (before front behind : List (List Call)) (ended : HaveEnded before) (bound_is : bound phase ≡ marked (all_marks before) 0) (own : List Call)
     (scene : (done : ℕ) → ((h : ℕ) → phase < h → done ≤ bound h) → Scene flags all phase session done before front behind own) (rising : CallsRise own) (near : Each IsNear own) where
   -- the calls of a line
-  around_fit : (label : Label) (labels : List Label) (action : Option ℕ) (calls rest past : List Call) (done : ℕ) → own ≡ rest ++ (around label labels action calls ++ past) → AreWithin calls
+  around_fit : (label : Label) (labels : List Label) (met : Option (List ℕ)) (action : Option ℕ) (calls rest past : List Call) (done : ℕ) → own ≡ rest ++ (around label labels met action calls ++ past) → AreWithin calls
       → IfSome action (λ number. number ≡ length labels + 1) → IsBehind bound phase past done → (rows words : List Change) → IsUnder rows words past
-      → AllFit (Fits all phase session done) rows words (all_told calls) × IsUnder (onto_rows (all_told calls) rows) (onto_words (all_told calls) words) (around label labels action calls ++ past)
-  around_fit label labels None calls rest past done e w counts b rows words u =
+      → AllFit (Fits all phase session done) rows words (all_told calls) × IsUnder (onto_rows (all_told calls) rows) (onto_words (all_told calls) words) (around label labels met action calls ++ past)
+  around_fit label labels met None calls rest past done e w counts b rows words u =
       let S : List Call → Type 0 = Scene flags all phase session done before front behind in
       calls_fit floors causes rows_had words_had flags all phase session done before front behind ended rest calls past (subst S e (scene done b.later)) w
       (subst (λ n. (done ≤ after_in past) ⊎ (done ≤ n)) bound_is b.known) (near_front calls past (near_back rest (calls ++ past) (subst (Each IsNear) e near))) (rises_back rest (calls ++ past) (subst CallsRise e rising)) rows words u
-  around_fit label labels (Some number) calls rest past done e w counts b rows words u =
+  around_fit label labels met (Some number) calls rest past done e w counts b rows words u =
       let S : List Call → Type 0 = Scene flags all phase session done before front behind in
-      let base : List Call = Enters label labels ∷ past in
-      let inner : (calls ++ Enters label labels ∷ []) ++ past ≡ calls ++ base = append_assoc calls (Enters label labels ∷ []) past in
+      let base : List Call = entering label labels met ++ past in
+      let inner : (calls ++ entering label labels met) ++ past ≡ calls ++ base = append_assoc calls (entering label labels met) past in
       let split : own ≡ (rest ++ Leaves ∷ []) ++ (calls ++ base) = e ∙ (ap (λ z. rest ++ (Leaves ∷ z)) inner ∙ sym (append_assoc rest (Leaves ∷ []) (calls ++ base))) in
       let rise : CallsRise (Leaves ∷ (calls ++ base)) = rises_back rest (Leaves ∷ (calls ++ base)) (subst CallsRise (append_assoc rest (Leaves ∷ []) (calls ++ base)) (subst CallsRise split rising)) in
       let entered : CallsRise base = rises_back calls base rise.1 in
-      let were : WereDone before base done = known b.known entered in
+      let were : WereDone before base done = known met b.known entered in
       let r = calls_fit floors causes rows_had words_had flags all phase session done before front behind ended (rest ++ Leaves ∷ []) calls base (subst S split (scene done b.later)) w were
-      (near_front calls base (near_back (rest ++ Leaves ∷ []) (calls ++ base) (subst (Each IsNear) split near))) rise.1 rows words (under_enters rows words label labels past entered u) in
+      (near_front calls base (near_back (rest ++ Leaves ∷ []) (calls ++ base) (subst (Each IsNear) split near))) rise.1 rows words (under_entering rows words label labels met past entered u) in
       (r.0, subst (λ z. IsUnder (onto_rows (all_told calls) rows) (onto_words (all_told calls) words) (Leaves ∷ z)) (sym inner) (under_leaves (onto_rows (all_told calls) rows) (onto_words (all_told calls) words) (calls ++ base) rise r.1)) where
-        known : (done ≤ after_in past) ⊎ (done ≤ bound phase) → CallsRise (Enters label labels ∷ past) → WereDone before (Enters label labels ∷ past) done
-        known (inl few) entered = inl (omega (arith, few, entered.0, after_top past entered.1))
-        known (inr old) entered = inr (omega (arith, old, bound_is))
+        known : (met : Option (List ℕ)) → (done ≤ after_in past) ⊎ (done ≤ bound phase) → CallsRise (entering label labels met ++ past) → WereDone before (entering label labels met ++ past) done
+        known None (inl few) entered = inl (omega (arith, few, entered.0, after_top past entered.1))
+        known (Some versions) (inl few) entered = inl (omega (arith, few, entered.1.0, after_top past entered.1.1))
+        known met (inr old) entered = inr (omega (arith, old, bound_is))
 
   pub record IsBlock (context : Context) (ds : List Doing) (earlier : List Placed) : Type 0 where
     pub rows : List Change
@@ -167,7 +170,7 @@ module _ (floors : FloorsLaw) (causes : CausesLaw) (rows_had : HadLaw) (words_ha
 
   doings_walked : (context : Context) (s : State) (ds : List Doing) (past : List Call) (earlier : List Placed) (rows words : List Change) → own ≡ doings_calls ds ++ past → Sits context s → AreParts s (parts_in ds) → AreCounted ds
       → ((h : ℕ) → phase < h → AllUnder (bound h) ds) → IsBehind bound phase past (turned context).done → IsUnder rows words past → AreBound all phase session earlier rows words → IsBlock context ds earlier
-  doings_walked context s [] past earlier rows words e sits are counts low b u o = record { rows = rows; words = words; walked = record { floored = tt; shown = tt; had = tt; bound = o }; later = b.later }
+  doings_walked context s [] past earlier rows words e sits are counts low b u o = record { rows = rows; words = words; walked = record { floored = tt; caused = tt; had = tt; bound = o }; later = b.later }
   doings_walked context s (d ∷ ds) past earlier rows words e sits are counts low b u o =
       let line : Line = line_of d.part.deed in
       let entries : List Entry = part_entries d.part in
@@ -179,7 +182,7 @@ module _ (floors : FloorsLaw) (causes : CausesLaw) (rows_had : HadLaw) (words_ha
       let next : Context = after context line entries in
       let split : own ≡ doings_calls ds ++ (doing_calls d ++ past) = e ∙ append_assoc (doings_calls ds) (doing_calls d) past in
       let w : AreWithin calls = calls_within d.part.turns (turns_within s d.part.turns are.0.are_turns) in
-      let f = around_fit d.label d.labels action calls (doings_calls ds) past done split w counts.0 b rows words u in
+      let f = around_fit d.label d.labels d.met action calls (doings_calls ds) past done split w counts.0 b rows words u in
       let t = (told context s (d.part ∷ []) sits (are.0, tt)) in
       let same : notes_of here ≡ turns_notes d.part.turns = sym (ap notes_of (append-nil here)) ∙ (t.same phase session ∙ append-nil (turns_notes d.part.turns)) in
       let quiet : unacted (notes_of here) ≡ unacted (all_told calls) = ap unacted same ∙ turns_unacted d.part.turns in
@@ -190,10 +193,10 @@ module _ (floors : FloorsLaw) (causes : CausesLaw) (rows_had : HadLaw) (words_ha
       let words_same : set ≡ onto_words (all_told calls) words = sym (words_unacted (notes_of here) words) ∙ (ap (λ z. onto_words z words) quiet ∙ words_unacted (all_told calls) words) in
       let under : IsUnder mine set (doing_calls d ++ past) =
       subst (λ z. IsUnder z set (doing_calls d ++ past)) (sym rows_same) (subst (λ z. IsUnder (onto_rows (all_told calls) rows) z (doing_calls d ++ past)) (sym words_same) f.1) in
-      let line_walked = part_walked all phase session line (turned context) entries earlier rows words fit o in
+      let line_walked = part_walked all phase session line (turned context) entries earlier rows words (part_drawn s d.part are.0).ahead fit o in
       let done_is : (turned next).done ≡ next_done action done =
       done_behind phase session line context entries action (over_zero action (length d.labels) counts.0) (numbers told weighed phase session context s d.part sits are.0) in
-      let after_line = around_behind bound phase d.label d.labels action calls past done w counts.0 (λ h up. (low h up).0) b in
+      let after_line = around_behind bound phase d.label d.labels d.met action calls past done w counts.0 (λ h up. (low h up).0) b in
       let rest = doings_walked next (state_after s d.part.turns) ds (doing_calls d ++ past) (passed earlier here) mine set split t.sits are.1 counts.1 (λ h up. (low h up).1)
       (subst (IsBehind bound phase (doing_calls d ++ past)) (sym done_is) after_line) under line_walked.bound in
       record {

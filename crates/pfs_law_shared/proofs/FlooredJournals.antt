@@ -1,73 +1,59 @@
 -- Journals of sessions at once are floored, and show the causes of what was held or busy, or found vacant.
-use Rattle.std.proofs.Common.{ℕ, ◌≡◌, ◌+◌, ◌<◌, ◌≤◌, ◌==◌, Bool, true, false, not, cond, ◌&&◌, List, [], ◌∷◌, ◌++◌, inl, inr, refl, ap, sym, ◌∙◌, subst, arith, append_assoc, append-nil, eq-eqb, le-leb, eqb-true}
+use Rattle.std.proofs.Common.{ℕ, ◌≡◌, ◌+◌, ◌<◌, ◌≤◌, ◌==◌, Bool, true, false, not, cond, ◌&&◌, List, [], ◌∷◌, ◌++◌, inl, inr, refl, ap, sym, ◌∙◌, subst, arith, append_assoc, append-nil, eq-eqb, eqb-true}
 use Rattle.std.specs.Prelude.{nat_lt, nat_le, ◌⊎◌, max}
 use Rattle.std.proofs.lemmas.Bool.{cases_lt, false≢true}
 use Rattle.pfs_event.specs.declared.entry.Entry.{Entry}
-use Rattle.pfs_levels.specs.Calls.{Call}
-use Rattle.pfs_levels.specs.JointCalls.{total, one_if, At, changes_of, all_calls}
+use Rattle.pfs_levels.specs.Calls.{Call, Rings, IsRow}
+use Rattle.pfs_levels.specs.declared.answers.RingPut.TheVariants.{Late}
+use Rattle.pfs_levels.specs.JointCalls.{total, one_if, At, changes_of, count, drawn, all_calls}
 use Rattle.pfs_levels.specs.CallOrder.{AllCalls, all_marks, all_word_marks, marked, published}
 use Rattle.pfs_levels.specs.CallOrder.{AreRising as CallsRise}
 use Rattle.pfs_model.proofs.EachLists.{each_join, each_front, each_behind}
 use Rattle.pfs_model.proofs.Floors.{each_map, each_chosen_of, greatest_most}
-use Rattle.pfs_model.specs.Actions.{IsAmong}
-use Rattle.pfs_model.specs.Causes.{by_others}
-use Rattle.pfs_model.specs.Chains.{Each, times, change_at, row_change, word_change, release_of, each_of, is_of, is_that}
-use Rattle.pfs_model.specs.Contexts.{Context, noted, after, subject_of, turned}
+use Rattle.pfs_model.specs.Causes.{AreCausedBehind, by_others, kind_of_row}
+use Rattle.pfs_model.specs.Chains.{Each, times, row_change, word_change, each_of, is_of}
+use Rattle.pfs_model.specs.Contexts.{Context, turned}
 use Rattle.pfs_model.specs.Contexts.{fresh as empty}
-use Rattle.pfs_model.specs.EntryPlaces.{Block, Placed, placed_part, placed_lines, places_behind, after_lines, told_by, chosen, by_session, before_phase, up_to_phase, AreShapedBehind}
+use Rattle.pfs_model.specs.EntryPlaces.{Block, Placed, placed_lines, places_behind, after_lines, told_by, chosen, by_session, before_phase, up_to_phase, AreShapedBehind}
 use Rattle.pfs_model.specs.Floors.{greatest, rows_known, loads_in, AreFlooredBehind}
 use Rattle.pfs_model.specs.SetupFlags.{loads_of}
 use Rattle.pfs_model.specs.declared.changes.Change.{Change}
-use Rattle.pfs_model.specs.declared.lines.Line.{Line}
 use Rattle.pfs_session.specs.SessionStates.{State, fresh}
-use Rattle.pfs_law_session.specs.Deeds.{Part, parts_calls}
+use Rattle.pfs_law_session.specs.Deeds.{Part}
 use Rattle.pfs_law_session.specs.JournalLaws.{AreParts, lines_of, entries_of}
 use Rattle.pfs_law_session.specs.Stints.{Stint, block_of, blocks_of, state_by, AreStintsBehind, AreDone}
 use Rattle.pfs_law_session.proofs.Stints.{blocks_more, told_more, done}
 use Rattle.pfs_law_plain.proofs.ActionCounts.{none_made, all_lined}
 use Rattle.pfs_law_plain.specs.RunRules.{entries_of as all_entries}
-use Rattle.pfs_law_plain.specs.SessionNotes.{Sits, ToldLaw}
+use Rattle.pfs_law_plain.specs.SessionNotes.{ToldLaw}
 use Rattle.pfs_law_plain.specs.Spells.{Spell, AreSpells, doings_calls, parts_in, stint_of, stints_of}
-use Rattle.pfs_law_plain.specs.Weights.{put_at, free_at, AreWeighed, WeighedLaw}
+use Rattle.pfs_law_plain.specs.Weights.{put_at, free_at, WeighedLaw}
 use Rattle.pfs_law_joint.specs.Causes.{CausesLaw}
 use Rattle.pfs_law_joint.specs.Floors.{FloorsLaw}
 use Rattle.pfs_law_joint.specs.Phases.{IsShared, AreWhole, HadLaw, LaterLaw, WordHadLaw}
-use Rattle.pfs_law_joint.proofs.MarkSums.{all_row_sums, off_zero}
-use Rattle.pfs_law_shared.specs.Floors.{AreShownBehind, HaveFloors}
+use Rattle.pfs_law_shared.specs.Floors.{HaveFloors}
 use Rattle.pfs_law_shared.specs.Journals.{AgreedLaw}
 use Rattle.pfs_law_shared.specs.Order.{IsNear, AllNear, AreSingle}
 use Rattle.pfs_law_shared.specs.Shares.{actors_of, spells_at, spells_before, AreShared}
 use Rattle.pfs_law_shared.proofs.ActedPlaces.{row_weight, word_weight, rows_up_to, words_up_to, all_over, rows_by, frees_by, sets_by, reaches, exceeds, frees_from, below_version, to_version, freed_below, each_both}
-use Rattle.pfs_law_shared.proofs.ActorSums.{changes_add, doings_sum}
 use Rattle.pfs_law_shared.proofs.AgreedCalls.{calls_front, calls_back, each_spell}
 use Rattle.pfs_law_shared.proofs.DoingMarks.{AreCounted, acted}
-use Rattle.pfs_law_shared.proofs.FittingNotes.{WasMade, Printed, Scene}
+use Rattle.pfs_law_shared.proofs.DrawnTickets.{drawn_sum, sum_one, IsBegun, begun}
+use Rattle.pfs_law_shared.proofs.FittingNotes.{WasMade, IsPut, Printed, Scene}
 use Rattle.pfs_law_shared.proofs.FlooredBlocks.{block_walked}
-use Rattle.pfs_law_shared.proofs.FlooredLines.{AreBound, IsHad, Had, WordHad, passed, floored_then, shown_then}
+use Rattle.pfs_law_shared.proofs.FlooredLines.{AreBound, IsHad, Had, WordHad, passed, floored_then, caused_then}
+use Rattle.pfs_law_shared.proofs.LatePuts.{WereDrawn, others_here, others_own}
 use Rattle.pfs_law_shared.proofs.OrderedActions.{each_near}
+use Rattle.pfs_law_shared.proofs.OthersPrinted.{IsOf, lines_are, others_made, others_put}
 use Rattle.pfs_law_shared.proofs.PhaseChains.{times_then}
-use Rattle.pfs_law_shared.proofs.PhaseCounts.{ArePrinted, printed_up_to, printed_before, rows_counted, words_counted, stands_free, times_among, release_printed, free_printed}
-use Rattle.pfs_law_shared.proofs.PhaseCounts.{all_over as over_actors}
-use Rattle.pfs_law_shared.proofs.PhaseWalks.{IsSum, IsKept, sum_up_to, IsRelated, walked, over, over_then, picked_over}
-use Rattle.pfs_law_shared.proofs.PhaseWeights.{AllSit, sit_next, chosen_then, each_then}
+use Rattle.pfs_law_shared.proofs.PhaseCounts.{ArePrinted, printed_up_to, printed_before, rows_counted, words_counted, stands_free, release_printed, free_printed}
+use Rattle.pfs_law_shared.proofs.PhaseWalks.{walked, over}
+use Rattle.pfs_law_shared.proofs.PhaseWeights.{AllSit, sit_next}
 use Rattle.pfs_law_shared.proofs.PlainPhases.{Ascend, ascending, done_at}
+use Rattle.pfs_law_shared.proofs.PrintedPuts.{longs_of, IsTold, block_told, actors_all, at_all, before_all}
 use Rattle.pfs_law_shared.proofs.RisingNumbers.{AllOver, AllUnder, IsRisen, risen_all, have_ended, at_own, before_own, done_of, all_counted}
+use Rattle.pfs_law_shared.proofs.TicketedPuts.{word_of, rungs}
 use Rattle.pfs_law_shared.proofs.WholeActors.{actors_whole}
-
--- entries of a block are of its phase and its session
-abbrev pub IsOf : ℕ → ℕ → Placed → Type 0
-IsOf phase session p = (p.phase ≡ phase) × (p.session ≡ session)
-
-part_of : (phase session : ℕ) (line : Line) (context : Context) (es : List Entry) → Each (IsOf phase session) (placed_part phase session line context es)
-part_of phase session line context [] = tt
-part_of phase session line context (e ∷ es) = ((refl, refl), part_of phase session line (noted (subject_of line) context e) es)
-
-pub lines_are : (phase session : ℕ) (context : Context) (ls : List Line) (parts : List (List Entry)) → Each (IsOf phase session) (placed_lines phase session context ls parts)
-lines_are phase session context [] parts = tt
-lines_are phase session context (line ∷ ls) [] = tt
-lines_are phase session context (line ∷ ls) (part ∷ parts) =
-    each_join (IsOf phase session) (placed_part phase session line (turned context) part) (placed_lines phase session (after context line part) ls parts) (part_of phase session line (turned context) part)
-    (lines_are phase session (after context line part) ls parts)
 
 -- what more entries than those give
 few_of : {A : Type 0} (given : Entry → List A) (test : A → Bool) (t u : Placed → Bool) → ((p : Placed) → t p ≡ true → u p ≡ true) → (ps : List Placed) → ((xs ys : List A) → times test (xs ++ ys) ≡ times test xs + times test ys)
@@ -144,93 +130,6 @@ now_is earlier later spell =
     ap actors_of (at_then f earlier (spell ∷ later) ∙ ap (λ b. spells_at f earlier ++ (cond b (spell ∷ []) [] ++ spells_at f later)) (eq-eqb f f refl))
     ∙ (actors_then (spells_at f earlier) own ∙ append_assoc (actors_of (spells_at f later)) (doings_calls spell.doings ∷ []) (actors_of (spells_at f earlier)))
 
-sum_then : (weigh : Spell → ℕ) (most : ℕ) (xs ys : List Spell) → sum_up_to weigh most (xs ++ ys) ≡ sum_up_to weigh most xs + sum_up_to weigh most ys
-sum_then weigh most [] ys = omega arith
-sum_then weigh most (x ∷ xs) ys = omega (arith, sum_then weigh most xs ys)
-
--- what others make is printed by others
-more_kept : IsKept (λ a b. b ≤ a)
-more_kept = record { none = omega arith; both = λ a b c d p q. omega (arith, p, q) }
-
-chosen_whole : (test : Placed → Bool) (ps : List Placed) → Each (λ p. test p ≡ true) ps → chosen test ps ≡ ps
-chosen_whole test [] each = refl
-chosen_whole test (p ∷ ps) each = ap (λ b. cond b (p ∷ []) [] ++ chosen test ps) each.0 ∙ ap (λ z. p ∷ z) (chosen_whole test ps each.1)
-
-module _ (told : ToldLaw) (weighed : WeighedLaw) (session row k : ℕ) where
-  abbrev h : At → ℕ
-  h x = one_if ((x.row == row) && x.puts && (x.version == k))
-
-  abbrev made_in : List Call → ℕ
-  made_in calls = total h (changes_of calls)
-
-  abbrev theirs : Spell → ℕ
-  theirs spell = cond (spell.session == session) 0 (made_in (doings_calls spell.doings))
-
-  abbrev printed_by : List Placed → ℕ
-  printed_by ps = times (is_that (change_at row k)) (each_of row_change (by_others session ps))
-
-  printed_sum : IsSum printed_by
-  printed_sum = record {
-    none = refl;
-    both = λ xs ys. ap (λ z. times (is_that (change_at row k)) (each_of row_change z)) (chosen_then (λ p. not (p.session == session)) xs ys)
-        ∙ (ap (times (is_that (change_at row k))) (each_then row_change (by_others session xs) (by_others session ys))
-        ∙ times_then (is_that (change_at row k)) (each_of row_change (by_others session xs)) (each_of row_change (by_others session ys)));
-  }
-
-  puts_that : (cs : List Change) → total (λ c. h (put_at c)) cs ≡ times (is_that (change_at row k)) cs
-  unfolding total
-  puts_that [] = refl
-  puts_that (c ∷ cs) = omega (arith, puts_that cs, one (c.row == row) (c.version == k)) where
-    one : (a b : Bool) → one_if (a && true && b) ≡ cond {A = ℕ} (a && b) 1 0
-    one true true = refl
-    one true false = refl
-    one false b = refl
-
-  frees_none : (cs : List Change) → total (λ c. h (free_at c)) cs ≡ 0
-  unfolding total
-  frees_none [] = refl
-  frees_none (c ∷ cs) = omega (arith, frees_none cs, one (c.row == row) (c.version == k)) where
-    one : (a b : Bool) → one_if (a && false && b) ≡ 0
-    one true b = refl
-    one false b = refl
-
-  printed_related : IsRelated (λ a b. b ≤ a) printed_by theirs
-  printed_related = λ context s spell sits are entered near shaped. by context s spell sits are (spell.session == session) refl where
-    by : (context : Context) (s : State) (spell : Spell) → Sits context s → AreParts s (parts_in spell.doings) → (b : Bool) → (spell.session == session) ≡ b
-        → cond b 0 (made_in (doings_calls spell.doings)) ≤ printed_by (placed_lines spell.phase spell.session context (lines_of (parts_in spell.doings)) (entries_of (parts_in spell.doings)))
-    by context s spell sits are true e = omega arith
-    by context s spell sits are false e =
-        let ps : List Part = parts_in spell.doings in
-        let here : List Placed = placed_lines spell.phase spell.session context (lines_of ps) (entries_of ps) in
-        let w : AreWeighed here (parts_calls ps) = weighed spell.phase spell.session context s ps sits are in
-        let all_theirs : by_others session here ≡ here =
-        chosen_whole (λ p. not (p.session == session)) here (each_map (IsOf spell.phase spell.session) (λ p. not (p.session == session) ≡ true) (λ p is. ap (λ n. not (n == session)) is.1 ∙ ap not e) here (lines_are spell.phase spell.session context (lines_of ps) (entries_of ps))) in
-        omega (arith, w.rows h, puts_that (each_of row_change here), frees_none (each_of release_of here), doings_sum made_in (changes_add h) spell.doings, ap (λ z. times (is_that (change_at row k)) (each_of row_change z)) all_theirs)
-
-  -- other sessions of a phase
-  others_over : (phase : ℕ) (xs : List Spell) → Each (λ x. x.session ≡ session → x.phase ≡ phase → ⊥) xs → over made_in (actors_of (spells_at phase xs)) ≤ sum_up_to theirs phase xs
-  others_over phase [] apart = omega arith
-  others_over phase (x ∷ xs) apart =
-      omega (arith, picked_over made_in (x.phase == phase) x (spells_at phase xs), others_over phase xs apart.1, one (x.phase == phase) (x.session == session) refl refl) where
-        one : (a b : Bool) → (x.phase == phase) ≡ a → (x.session == session) ≡ b → cond a (made_in (doings_calls x.doings)) 0 ≤ cond (nat_le x.phase phase) (cond b 0 (made_in (doings_calls x.doings))) 0
-        one false b p q = omega arith
-        one true true p q = absurd (apart.0 (eqb-true x.session session q) (eqb-true x.phase phase p))
-        one true false p q = omega (arith, ap (λ t. cond t (made_in (doings_calls x.doings)) 0) (le-leb x.phase phase (omega (arith, eqb-true x.phase phase p))))
-
-  pub others_made : (stack : ℕ) (depths : ℕ → ℕ) (spells earlier later : List Spell) (spell : Spell) → spells ≡ earlier ++ spell ∷ later → 0 < row → AreSpells stack depths spells → AreShapedBehind [] 0 (blocks_of (stints_of spells))
-      → Each (λ x. Each IsNear (doings_calls x.doings)) spells → Each (λ x. x.session ≡ session → x.phase ≡ spell.phase → ⊥) earlier → Each (λ x. x.session ≡ session → x.phase ≡ spell.phase → ⊥) later
-      → 0 < published (all_marks (actors_of (spells_at spell.phase later) ++ actors_of (spells_at spell.phase earlier))) row k
-      → IsAmong (change_at row k) (each_of row_change (by_others session (up_to_phase spell.phase (all_entries spells))))
-  others_made stack depths spells earlier later spell split up are shaped near before after some =
-      let f : ℕ = spell.phase in
-      let front : List (List Call) = actors_of (spells_at f later) in
-      let behind : List (List Call) = actors_of (spells_at f earlier) in
-      let w = walked told (λ a b. b ≤ a) more_kept printed_by printed_sum theirs printed_related f stack depths spells are.stints are.entered shaped near in
-      let marks : published (all_marks (front ++ behind)) row k ≡ made_in (all_calls (front ++ behind)) = all_row_sums h (λ x zero. ap (λ b. one_if (b && x.puts && (x.version == k))) (off_zero row up x zero)) (front ++ behind) in
-      let sums : sum_up_to theirs f spells ≡ sum_up_to theirs f earlier + sum_up_to theirs f (spell ∷ later) = ap (sum_up_to theirs f) split ∙ sum_then theirs f earlier (spell ∷ later) in
-      times_among (change_at row k) (each_of row_change (by_others session (up_to_phase f (all_entries spells))))
-      (omega (arith, some, marks, over_actors made_in (changes_add h) (front ++ behind), over_then made_in front behind, others_over f earlier before, others_over f later after, sums, w))
-
 -- all of it
 module _ (floors : FloorsLaw) (causes : CausesLaw) (rows_had : HadLaw) (words_had : WordHadLaw) (later_law : LaterLaw) (agreed : AgreedLaw) (told : ToldLaw) (weighed : WeighedLaw)
     (flags : List ℕ) (stack : ℕ) (depths : ℕ → ℕ) (spells : List Spell) (last : ℕ) (are : AreSpells stack depths spells) (shared : AreShared flags spells) (near : AllNear spells) (single : AreSingle spells)
@@ -261,6 +160,12 @@ module _ (floors : FloorsLaw) (causes : CausesLaw) (rows_had : HadLaw) (words_ha
 
   counts : Each (λ spell. AreCounted spell.doings) spells
   counts = all_counted none_made spells (all_lined stack depths spells are.stints are.entered)
+
+  abbrev HasTold : Spell → Type 0
+  HasTold spell = IsTold (doings_calls spell.doings)
+
+  told_each : Each HasTold spells
+  told_each = each_map (λ spell. (s : State) × AreParts s (parts_in spell.doings)) HasTold (λ spell x. block_told x.0 spell.doings x.1) spells (done_of spells is_done)
 
   risen : Each (IsRisen later_law flags spells shared is_done) spells
   risen = risen_all later_law flags spells shared is_done spells (done_of spells is_done) counts rises (at_own spells spells (λ weigh phase. omega arith)) (before_own spells spells (λ weigh phase. omega arith))
@@ -311,7 +216,7 @@ module _ (floors : FloorsLaw) (causes : CausesLaw) (rows_had : HadLaw) (words_ha
   -- block by block
   pub record Rest (seen rest : List Placed) : Type 0 where
     pub floored : AreFlooredBehind all seen rest
-    pub shown : AreShownBehind all seen rest
+    pub caused : AreCausedBehind all seen rest
 
   abbrev IsPast : List Spell → Spell → Type 0
   IsPast earlier other = Each (λ x. x.session ≡ other.session → x.phase < other.phase) earlier
@@ -338,6 +243,54 @@ module _ (floors : FloorsLaw) (causes : CausesLaw) (rows_had : HadLaw) (words_ha
         each_both (λ other. spell.phase ≤ other.phase) (λ other. other.session ≡ spell.session → other.phase ≡ spell.phase → ⊥) (λ other. other.session ≡ spell.session → spell.phase < other.phase)
         (λ other more not same. strict spell.phase other.phase more (not same)) rest (later_up spell.phase rest up) alone
 
+  -- an event that came late: the greater ticket is printed by others
+  late_put : (earlier later : List Spell) (spell : Spell) → spells ≡ earlier ++ spell ∷ later
+      → now spell.phase ≡ actors_of (spells_at spell.phase later) ++ doings_calls spell.doings ∷ actors_of (spells_at spell.phase earlier)
+      → Each (λ x. x.session ≡ spell.session → x.phase ≡ spell.phase → ⊥) earlier → Each (λ x. x.session ≡ spell.session → x.phase ≡ spell.phase → ⊥) later
+      → (common : IsShared flags (before spell.phase) (actors_of (spells_at spell.phase later) ++ doings_calls spell.doings ∷ actors_of (spells_at spell.phase earlier))) (done : ℕ) (newer older : List Call) (row greater version : ℕ) (put : List ℕ)
+      → doings_calls spell.doings ≡ newer ++ Rings row put (Late greater version) ∷ older → IsRow row → word_of (common.content row version) ≡ greater + 1
+      → version ≤ count (changes_of (all_calls ((actors_of (spells_at spell.phase later) ++ doings_calls spell.doings ∷ actors_of (spells_at spell.phase earlier)) ++ before spell.phase))) row → IsPut all spell.phase spell.session done row version greater
+  late_put earlier later spell split is none alone common done newer older row greater version put own is_row holds had =
+      by (doings_calls spell.doings) own common (subst (AllCalls IsTold) is told_now) holds had where
+        f : ℕ
+        f = spell.phase
+
+        front : List (List Call)
+        front = actors_of (spells_at f later)
+
+        behind : List (List Call)
+        behind = actors_of (spells_at f earlier)
+
+        told_now : AllCalls IsTold (now f)
+        told_now = actors_all IsTold (spells_at f spells) (at_all HasTold f spells told_each)
+
+        told_before : AllCalls IsTold (before f)
+        told_before = actors_all IsTold (spells_before f spells) (before_all HasTold f spells told_each)
+
+        started : IsBegun spells f
+        started = begun flags spells shared f
+
+        drawn_before : WereDrawn (kind_of_row row) (before f) (drawn started.draws (kind_of_row row))
+        drawn_before = record {
+          tickets = λ ticket. started.same (λ d. one_if ((d.kind == kind_of_row row) && (d.ticket == ticket)))
+              ∙ (drawn_sum (kind_of_row row) (λ n. n == ticket) started.draws started.drawn_is ∙ sum_one ticket (drawn started.draws (kind_of_row row)));
+        }
+
+        printed_by_others : over (rungs row greater (λ k. k == version)) (front ++ behind) ≤ longs_of row greater (λ k. k == version) (by_others spell.session (up_to_phase f all))
+        printed_by_others = others_put told spell.session row greater (λ k. k == version) stack depths spells earlier later spell split are shaped nears none alone
+
+        by : (calls : List Call) → calls ≡ newer ++ Rings row put (Late greater version) ∷ older → (common : IsShared flags (before f) (front ++ calls ∷ behind)) → AllCalls IsTold (front ++ calls ∷ behind)
+            → word_of (common.content row version) ≡ greater + 1 → version ≤ count (changes_of (all_calls ((front ++ calls ∷ behind) ++ before f))) row → IsPut all f spell.session done row version greater
+        by calls own common told_here holds had =
+            let S : (z : List Call) → Type 0 = λ z. (c : IsShared flags (before f) (front ++ z ∷ behind)) → AllCalls IsTold (front ++ z ∷ behind) → word_of (c.content row version) ≡ greater + 1
+            → version ≤ count (changes_of (all_calls ((front ++ z ∷ behind) ++ before f))) row → IsPut all f spell.session done row version greater in
+            subst S (sym own) (λ c t h n. (
+            let some = others_here flags (before f) front behind newer older row greater version put c t told_before (drawn started.draws (kind_of_row row)) drawn_before is_row h n in
+            record {
+              same = others_own flags (before f) front behind newer older row greater version put c t told_before (drawn started.draws (kind_of_row row)) drawn_before is_row h n;
+              put = omega (arith, some, printed_by_others);
+            })) common told_here holds had
+
   block_scene : (earlier later : List Spell) (spell : Spell) → spells ≡ earlier ++ spell ∷ later → IsPast earlier spell → Each (λ other. other.session ≡ spell.session → other.phase ≡ spell.phase → ⊥) later
       → (done : ℕ) → ((h : ℕ) → spell.phase < h → done ≤ bound h)
       → Scene flags all spell.phase spell.session done (before spell.phase) (actors_of (spells_at spell.phase later)) (actors_of (spells_at spell.phase earlier)) (doings_calls spell.doings)
@@ -354,6 +307,7 @@ module _ (floors : FloorsLaw) (causes : CausesLaw) (rows_had : HadLaw) (words_ha
         shared = subst (IsShared flags (before f)) is (shared f);
         whole = subst (AllCalls AreWhole) is (actors_whole (spells_at f spells) (done_at f spells is_done));
         printed = subst (λ z. Printed all f spell.session done (before f) z (front ++ behind)) is p;
+        late = λ newer older row greater version put own is_row holds had. late_put earlier later spell split is none alone (subst (IsShared flags (before f)) is (shared f)) done newer older row greater version put own is_row holds had;
       }
 
   abbrev HasEnded : List Spell → List Stint → Type 0
@@ -364,7 +318,7 @@ module _ (floors : FloorsLaw) (causes : CausesLaw) (rows_had : HadLaw) (words_ha
       → Each (IsRisen later_law flags spells shared is_done) later → HasEnded earlier stints → Each (IsPast earlier) later → Each (WasSeen seen) later → Each (IsHad all) seen
       → Rest seen (places_behind (blocks_of stints) (blocks_of (stints_of later)))
   unfolding places_behind
-  journals_walked earlier [] stints phase seen split sit are_stints alone up counted rise nearby risen_here old past was had = record { floored = tt; shown = tt }
+  journals_walked earlier [] stints phase seen split sit are_stints alone up counted rise nearby risen_here old past was had = record { floored = tt; caused = tt }
   journals_walked earlier (spell ∷ later) stints phase seen split sit are_stints alone up counted rise nearby risen_here old past was had =
       let k : ℕ = spell.session in
       let f : ℕ = spell.phase in
@@ -398,7 +352,7 @@ module _ (floors : FloorsLaw) (causes : CausesLaw) (rows_had : HadLaw) (words_ha
       let moved : Rest (passed seen here) rest = subst (λ z. Rest (passed seen here) (places_behind z others)) more r in
       record {
         floored = floored_then all seen here rest block.walked.floored moved.floored;
-        shown = shown_then all seen here rest block.walked.shown moved.shown;
+        caused = caused_then all seen here rest block.walked.caused moved.caused;
       } where
         next_end : (earlier : List Spell) (spell : Spell) (stints : List Stint) → HasEnded earlier stints
             → ((h : ℕ) → spell.phase < h → (turned (after_lines (told_by spell.session empty (blocks_of stints)) (lines_of (parts_in spell.doings)) (entries_of (parts_in spell.doings)))).done ≤ bound h)
@@ -426,4 +380,4 @@ module _ (floors : FloorsLaw) (causes : CausesLaw) (rows_had : HadLaw) (words_ha
   pub floors_kept : HaveFloors spells
   floors_kept =
       let r = journals_walked [] spells [] 0 [] refl (λ k thread q. q) are.stints single (ascending stack depths [] 0 spells are.stints) counts rises nears risen (λ k h each. omega arith) (no_past spells) (none_seen spells) tt in
-      record { floored = r.floored; shown = r.shown }
+      record { floored = r.floored; caused = r.caused }

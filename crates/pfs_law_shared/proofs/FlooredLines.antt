@@ -1,13 +1,16 @@
 -- The lines of a block whose notes fit are floored, and show their causes.
-use Rattle.std.proofs.Common.{ℕ, ◌≡◌, ◌+◌, ◌-◌, ◌/◌, ◌<◌, ◌≤◌, ◌==◌, true, cond, List, [], ◌∷◌, ◌++◌, Option, inl, inr, refl, ap, sym, subst, arith, eq-eqb}
+use Rattle.std.proofs.Common.{ℕ, ◌≡◌, ◌+◌, ◌-◌, ◌/◌, ◌<◌, ◌≤◌, ◌==◌, ◌&&◌, Bool, true, false, cond, List, [], ◌∷◌, ◌++◌, Option, inl, inr, refl, ap, sym, subst, arith, eq-eqb}
 use Rattle.std.specs.Prelude.{◌⊎◌, max}
 use Rattle.std.proofs.Math.Nat.{max-le}
+use Rattle.std.proofs.lemmas.Bool.{cases_lt, eqb-true}
+use Rattle.pfs_lemmas.proofs.Bools.{and_first, and_second}
+use Rattle.pfs_levels.specs.JointCalls.{one_if}
 use Rattle.pfs_event.specs.declared.entry.Entry.{Entry}
 use Rattle.pfs_event.specs.declared.entry.Entry.TheVariants as says
 use Rattle.pfs_model.proofs.EachLists.{each_join}
 use Rattle.pfs_model.proofs.Floors.{each_map, greatest_most}
 use Rattle.pfs_model.specs.Actions.{IsAmong}
-use Rattle.pfs_model.specs.Causes.{IsCaused, WasFree, SomeReleased}
+use Rattle.pfs_model.specs.Causes.{IsCaused, IsLate, PutsTicket, SomePuts, WasFree, SomeReleased, ShowsCause, AreCausedBehind, by_others}
 use Rattle.pfs_model.specs.Chains.{Each, times, change_at, row_change, word_change, release_of, each_of, is_of, opens_free}
 use Rattle.pfs_model.specs.Contexts.{Context, noted, subject_of}
 use Rattle.pfs_model.specs.EntryPlaces.{Placed, placed_part, by_session, before_phase, up_to_phase}
@@ -17,9 +20,10 @@ use Rattle.pfs_model.specs.declared.changes.Change.{Change}
 use Rattle.pfs_model.specs.declared.lines.Line.{Line}
 use Rattle.pfs_model.specs.declared.lines.Subject.{Subject}
 use Rattle.pfs_law_plain.specs.Notes.{Note, Saw, saw_all, notes_at, notes_of}
-use Rattle.pfs_law_shared.specs.Floors.{Shows, AreShownBehind}
-use Rattle.pfs_law_shared.proofs.FittingNotes.{IsUp, IsOver, IsRead, IsFreed, IsLoaded, IsRefused, IsVacant, Fits}
+use Rattle.pfs_law_shared.proofs.DrawnPuts.{long_by, IsAhead}
+use Rattle.pfs_law_shared.proofs.FittingNotes.{IsUp, IsOver, IsRead, IsFreed, IsLoaded, IsRefused, IsVacant, IsOverdue, Fits}
 use Rattle.pfs_law_shared.proofs.NamedNotes.{onto_rows, onto_words, onto_rows_then, onto_words_then, AllFit, fit_front, fit_back}
+use Rattle.pfs_law_shared.proofs.PrintedPuts.{longs_of}
 
 -- entries that stand before the next, the last first
 abbrev pub passed : List Placed → List Placed → List Placed
@@ -99,6 +103,31 @@ module _ (all : List Placed) (phase session : ℕ) where
       by (inl z) = inl (z.0, omega (arith, low, z.1))
       by (inr is) = inr (some_released row (floor_of all earlier (here e) row) u.version (each_of release_of (up_to_phase phase all)) low is)
 
+    puts_ticket : (row greater floor v : ℕ) (e : Entry) → floor ≤ v → 0 < long_by row greater (λ k. k == v) e → PutsTicket row greater floor e
+    puts_ticket row greater floor v (says.Long at k own) low some = by ((at == row) && ((k == v) && (own == greater))) refl some where
+      by : (b : Bool) → ((at == row) && ((k == v) && (own == greater))) ≡ b → 0 < one_if b → (at ≡ row) × (own ≡ greater) × (floor ≤ k)
+      by false e some = absurd (omega (arith, some))
+      by true e some =
+          let both = and_second (at == row) ((k == v) && (own == greater)) e in
+          (eqb-true at row (and_first (at == row) ((k == v) && (own == greater)) e), eqb-true own greater (and_second (k == v) (own == greater) both), omega (arith, low, eqb-true k v (and_first (k == v) (own == greater) both)))
+    puts_ticket row greater floor v _ low some = absurd (omega (arith, some))
+
+    some_puts : (row greater floor v : ℕ) (ps : List Placed) → floor ≤ v → 0 < longs_of row greater (λ k. k == v) ps → SomePuts row greater floor ps
+    some_puts row greater floor v [] low some = absurd (omega (arith, some))
+    some_puts row greater floor v (p ∷ ps) low some = at (cases_lt 0 (long_by row greater (λ k. k == v) p.entry)) (λ more. some_puts row greater floor v ps low more) where
+      at : (0 < long_by row greater (λ k. k == v) p.entry) ⊎ (long_by row greater (λ k. k == v) p.entry ≤ 0) → (0 < longs_of row greater (λ k. k == v) ps → SomePuts row greater floor ps)
+          → PutsTicket row greater floor p.entry ⊎ SomePuts row greater floor ps
+      at (inl here) go = inl (puts_ticket row greater floor v p.entry low here)
+      at (inr none) go = inr (go (omega (arith, some, none)))
+
+    late : (e : Entry) (row ticket greater : ℕ) → IsAhead (says.Late row ticket greater) → IsOverdue all phase session done rows row greater → IsLate all earlier (here e) row ticket greater
+    late e row ticket greater a u = record {
+      above = a.0;
+      own = a.1;
+      same = u.is_put.same;
+      put = some_puts row greater (floor_of all earlier (here e) row) u.version (by_others session (up_to_phase phase all)) (floor_up e row u.version u.up) u.is_put.put;
+    }
+
     loads_keep : (e : Entry) (loads seen : List Change) → ((word : ℕ) → greatest word words ≤ greatest word seen) → AllFit (Fits all phase session done) rows seen (saw_all loads) → LoadsKeep all earlier (here e) (loads ++ [])
     loads_keep e [] seen more a = tt
     loads_keep e (l ∷ ls) seen more a =
@@ -111,36 +140,36 @@ module _ (all : List Placed) (phase session : ℕ) where
     pub record IsKept (e : Entry) : Type 0 where
       pub namings : NamingsKeep all earlier (here e) (namings_of e)
       pub loads : LoadsKeep all earlier (here e) (loads_at (subject_of line) context e ++ word_change e)
-      pub shows : Shows all earlier (here e) e
+      pub shows : ShowsCause all earlier (here e) e
 
-    entry_keeps : (e : Entry) → AllFit (Fits all phase session done) rows words (notes_at (subject_of line) context e) → IsKept e
-    entry_keeps (says.Connect action thread account user host) a = record { namings = tt; loads = tt; shows = tt }
-    entry_keeps (says.Act action) a = record { namings = tt; loads = tt; shows = tt }
-    entry_keeps (says.Start event verdict consumers thread class table) a =
+    entry_keeps : (e : Entry) → IsAhead e → AllFit (Fits all phase session done) rows words (notes_at (subject_of line) context e) → IsKept e
+    entry_keeps (says.Connect action thread account user host) ahead a = record { namings = tt; loads = tt; shows = tt }
+    entry_keeps (says.Act action) ahead a = record { namings = tt; loads = tt; shows = tt }
+    entry_keeps (says.Start event verdict consumers thread class table) ahead a =
         let e : Entry = says.Start event verdict consumers thread class table in
         record { namings = tt; loads = loads_keep e (loads_at (subject_of line) context e) words (λ word. omega arith) a; shows = tt }
-    entry_keeps (says.End event last consumers thread) a =
+    entry_keeps (says.End event last consumers thread) ahead a =
         let e : Entry = says.End event last consumers thread in
         record { namings = tt; loads = loads_keep e (loads_at (subject_of line) context e) words (λ word. omega arith) a; shows = tt }
-    entry_keeps (says.Saw word version) a = record { namings = tt; loads = (word_floor (says.Saw word version) word version a.0, a.0.had, tt); shows = tt }
-    entry_keeps (says.Set word version flags) a = record { namings = tt; loads = (word_floor (says.Set word version flags) word version a.0, a.0.had, tt); shows = tt }
-    entry_keeps (says.Add row version) a = record { namings = changes (says.Add row version) row version a.0; loads = tt; shows = tt }
-    entry_keeps (says.Ring row version) a = record { namings = changes (says.Ring row version) row version a.0; loads = tt; shows = tt }
-    entry_keeps (says.Long row version ticket) a = record { namings = changes (says.Long row version ticket) row version a.0; loads = tt; shows = tt }
-    entry_keeps (says.Take row version) a = record { namings = changes (says.Take row version) row version a.0; loads = tt; shows = tt }
-    entry_keeps (says.Give row version from) a = record { namings = changes (says.Give row version from) row version a.0; loads = tt; shows = tt }
-    entry_keeps (says.Tag row version) a = record { namings = changes (says.Tag row version) row version a.0; loads = tt; shows = tt }
-    entry_keeps (says.Seen row version) a = record { namings = sees (says.Seen row version) row version a.0; loads = tt; shows = tt }
-    entry_keeps (says.Free row version) a = record { namings = frees (says.Free row version) row version a.0; loads = tt; shows = tt }
-    entry_keeps (says.Held row first second) a = record { namings = tt; loads = tt; shows = refused (says.Held row first second) row first second a.0 }
-    entry_keeps (says.Busy row first second) a = record { namings = tt; loads = tt; shows = refused (says.Busy row first second) row first second a.0 }
-    entry_keeps (says.Vacant row) a = record { namings = tt; loads = tt; shows = vacant (says.Vacant row) row a.0 }
-    entry_keeps (says.Late row ticket greater) a = record { namings = tt; loads = tt; shows = tt }
-    entry_keeps says.Settle a = record { namings = tt; loads = tt; shows = tt }
-    entry_keeps (says.Reply number) a = record { namings = tt; loads = tt; shows = tt }
-    entry_keeps (says.Error number) a = record { namings = tt; loads = tt; shows = tt }
-    entry_keeps says.Query a = record { namings = tt; loads = tt; shows = tt }
-    entry_keeps (says.Rows number) a = record { namings = tt; loads = tt; shows = tt }
+    entry_keeps (says.Saw word version) ahead a = record { namings = tt; loads = (word_floor (says.Saw word version) word version a.0, a.0.had, tt); shows = tt }
+    entry_keeps (says.Set word version flags) ahead a = record { namings = tt; loads = (word_floor (says.Set word version flags) word version a.0, a.0.had, tt); shows = tt }
+    entry_keeps (says.Add row version) ahead a = record { namings = changes (says.Add row version) row version a.0; loads = tt; shows = tt }
+    entry_keeps (says.Ring row version) ahead a = record { namings = changes (says.Ring row version) row version a.0; loads = tt; shows = tt }
+    entry_keeps (says.Long row version ticket) ahead a = record { namings = changes (says.Long row version ticket) row version a.0; loads = tt; shows = tt }
+    entry_keeps (says.Take row version) ahead a = record { namings = changes (says.Take row version) row version a.0; loads = tt; shows = tt }
+    entry_keeps (says.Give row version from) ahead a = record { namings = changes (says.Give row version from) row version a.0; loads = tt; shows = tt }
+    entry_keeps (says.Tag row version) ahead a = record { namings = changes (says.Tag row version) row version a.0; loads = tt; shows = tt }
+    entry_keeps (says.Seen row version) ahead a = record { namings = sees (says.Seen row version) row version a.0; loads = tt; shows = tt }
+    entry_keeps (says.Free row version) ahead a = record { namings = frees (says.Free row version) row version a.0; loads = tt; shows = tt }
+    entry_keeps (says.Held row first second) ahead a = record { namings = tt; loads = tt; shows = refused (says.Held row first second) row first second a.0 }
+    entry_keeps (says.Busy row first second) ahead a = record { namings = tt; loads = tt; shows = refused (says.Busy row first second) row first second a.0 }
+    entry_keeps (says.Vacant row) ahead a = record { namings = tt; loads = tt; shows = vacant (says.Vacant row) row a.0 }
+    entry_keeps (says.Late row ticket greater) ahead a = record { namings = tt; loads = tt; shows = late (says.Late row ticket greater) row ticket greater ahead a.0 }
+    entry_keeps says.Settle ahead a = record { namings = tt; loads = tt; shows = tt }
+    entry_keeps (says.Reply number) ahead a = record { namings = tt; loads = tt; shows = tt }
+    entry_keeps (says.Error number) ahead a = record { namings = tt; loads = tt; shows = tt }
+    entry_keeps says.Query ahead a = record { namings = tt; loads = tt; shows = tt }
+    entry_keeps (says.Rows number) ahead a = record { namings = tt; loads = tt; shows = tt }
 
 -- what an entry names is had by the phase's end
 abbrev pub Had : List Placed → ℕ → Change → Type 0
@@ -255,7 +284,7 @@ done_kept subject context _ = refl
 -- entries one after another
 pub record AreWalked (all : List Placed) (phase session : ℕ) (earlier ps : List Placed) (rows words : List Change) : Type 0 where
   pub floored : AreFlooredBehind all earlier ps
-  pub shown : AreShownBehind all earlier ps
+  pub caused : AreCausedBehind all earlier ps
   pub had : Each (IsHad all) ps
   pub bound : AreBound all phase session (passed earlier ps) rows words
 
@@ -267,24 +296,24 @@ pub floored_then : (all earlier xs ys : List Placed) → AreFlooredBehind all ea
 floored_then all earlier [] ys a b = b
 floored_then all earlier (x ∷ xs) ys a b = (a.0, a.1, floored_then all (x ∷ earlier) xs ys a.2 b)
 
-pub shown_then : (all earlier xs ys : List Placed) → AreShownBehind all earlier xs → AreShownBehind all (passed earlier xs) ys → AreShownBehind all earlier (xs ++ ys)
-shown_then all earlier [] ys a b = b
-shown_then all earlier (x ∷ xs) ys a b = (a.0, shown_then all (x ∷ earlier) xs ys a.1 b)
+pub caused_then : (all earlier xs ys : List Placed) → AreCausedBehind all earlier xs → AreCausedBehind all (passed earlier xs) ys → AreCausedBehind all earlier (xs ++ ys)
+caused_then all earlier [] ys a b = b
+caused_then all earlier (x ∷ xs) ys a b = (a.0, caused_then all (x ∷ earlier) xs ys a.1 b)
 
 pub walked_then : (all : List Placed) (phase session : ℕ) (earlier xs ys : List Placed) (rows words mine set : List Change) → AreWalked all phase session earlier xs rows words
     → AreWalked all phase session (passed earlier xs) ys mine set → AreWalked all phase session earlier (xs ++ ys) mine set
 walked_then all phase session earlier xs ys rows words mine set a b = record {
   floored = floored_then all earlier xs ys a.floored b.floored;
-  shown = shown_then all earlier xs ys a.shown b.shown;
+  caused = caused_then all earlier xs ys a.caused b.caused;
   had = each_join (IsHad all) xs ys a.had b.had;
   bound = subst (λ z. AreBound all phase session z mine set) (sym (passed_then earlier xs ys)) b.bound;
 }
 
 pub part_walked : (all : List Placed) (phase session : ℕ) (line : Line) (context : Context) (es : List Entry) (earlier : List Placed) (rows words : List Change)
-    → AllFit (Fits all phase session context.done) rows words (notes_of (placed_part phase session line context es)) → AreBound all phase session earlier rows words
+    → Each IsAhead es → AllFit (Fits all phase session context.done) rows words (notes_of (placed_part phase session line context es)) → AreBound all phase session earlier rows words
     → AreWalked all phase session earlier (placed_part phase session line context es) (onto_rows (notes_of (placed_part phase session line context es)) rows) (onto_words (notes_of (placed_part phase session line context es)) words)
-part_walked all phase session line context [] earlier rows words a b = record { floored = tt; shown = tt; had = tt; bound = b }
-part_walked all phase session line context (e ∷ es) earlier rows words a b =
+part_walked all phase session line context [] earlier rows words ahead a b = record { floored = tt; caused = tt; had = tt; bound = b }
+part_walked all phase session line context (e ∷ es) earlier rows words ahead a b =
     let p : Placed = record { phase = phase; session = session; line = line; context = context; entry = e } in
     let next : Context = noted (subject_of line) context e in
     let rest : List Placed = placed_part phase session line next es in
@@ -294,12 +323,12 @@ part_walked all phase session line context (e ∷ es) earlier rows words a b =
     let set : List Change = onto_words notes words in
     let front = fit_front F rows words notes (notes_of rest) a in
     let back : AllFit F mine set (notes_of rest) = fit_back F rows words notes (notes_of rest) a in
-    let k : IsKept all phase session line context earlier rows words b e = entry_keeps all phase session line context earlier rows words b e front in
-    let r = part_walked all phase session line next es (p ∷ earlier) mine set (subst (λ d. AllFit (Fits all phase session d) mine set (notes_of rest)) (sym (done_kept (subject_of line) context e)) back)
+    let k : IsKept all phase session line context earlier rows words b e = entry_keeps all phase session line context earlier rows words b e ahead.0 front in
+    let r = part_walked all phase session line next es (p ∷ earlier) mine set ahead.1 (subst (λ d. AllFit (Fits all phase session d) mine set (notes_of rest)) (sym (done_kept (subject_of line) context e)) back)
     (bound_more all phase session line context e earlier rows words b) in
     record {
       floored = (k.namings, k.loads, r.floored);
-      shown = (k.shows, r.shown);
+      caused = (k.shows, r.caused);
       had = (entry_had all phase session context.done line context e rows words front, r.had);
       bound = subst (λ z. AreBound all phase session (passed (p ∷ earlier) rest) z (onto_words (notes ++ notes_of rest) words)) (sym (onto_rows_then notes (notes_of rest) rows))
           (subst (λ z. AreBound all phase session (passed (p ∷ earlier) rest) (onto_rows (notes_of rest) mine) z) (sym (onto_words_then notes (notes_of rest) words)) r.bound);

@@ -116,7 +116,7 @@ parts_there (p ∷ ps) near =
 pub parts_near : (ds : List Doing) → Each IsNear (doings_calls ds) → Each (λ p. Each IsNear (part_calls p)) (parts_in ds)
 parts_near [] near = tt
 parts_near (d ∷ ds) near = (
-  around_near d.label d.labels (action_of d.part.deed) (part_calls d.part) (near_back (doings_calls ds) (doing_calls d) near),
+  around_near d.label d.labels d.met (action_of d.part.deed) (part_calls d.part) (near_back (doings_calls ds) (doing_calls d) near),
   parts_near ds (near_front (doings_calls ds) (doing_calls d) near),
 )
 

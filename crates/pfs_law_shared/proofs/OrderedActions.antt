@@ -220,7 +220,7 @@ module _ (told : ToldLaw) (weighed : WeighedLaw) where
   unfolding total
   doings_numbers h off [] near = refl
   doings_numbers h off (d ∷ ds) near =
-      let own = off_zero h off (part_calls d.part) (around_near d.label d.labels (action_of d.part.deed) (part_calls d.part) (near_back (doings_calls ds) (doing_calls d) near)) in
+      let own = off_zero h off (part_calls d.part) (around_near d.label d.labels d.met (action_of d.part.deed) (part_calls d.part) (near_back (doings_calls ds) (doing_calls d) near)) in
       let t = total_then (λ c. h (at_put 0 c.version)) (act_by (action_of d.part.deed)) (acts_of (parts_in ds)) in
       omega (arith, own, t, same (action_of d.part.deed), doings_numbers h off ds (near_front (doings_calls ds) (doing_calls d) near)) where
         same : (action : Option ℕ) → own_number (λ x number. h x) action ≡ total (λ c. h (at_put 0 c.version)) (act_by action)

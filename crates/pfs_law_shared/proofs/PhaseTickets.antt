@@ -1,5 +1,5 @@
 -- Phase by phase the puts of a long history that are printed have the tickets that were drawn in the phase.
-use Rattle.std.proofs.Common.{ℕ, zero, suc, ◌≡◌, ◌+◌, ◌<◌, ◌≤◌, ◌==◌, Bool, true, false, not, cond, ◌&&◌, List, [], ◌∷◌, ◌++◌, length, Option, Some, None, inl, inr, refl, ap, sym, ◌∙◌, subst, arith, append_assoc, append-nil, eq-eqb, eqb-true, add-one}
+use Rattle.std.proofs.Common.{ℕ, zero, suc, ◌≡◌, ◌+◌, ◌<◌, ◌≤◌, ◌==◌, Bool, true, false, not, cond, ◌&&◌, List, [], ◌∷◌, ◌++◌, length, Option, Some, None, inl, inr, refl, ap, sym, ◌∙◌, subst, arith, append_assoc, append-nil, eq-eqb, eqb-true}
 use Rattle.std.specs.Prelude.{nat_lt, nat_le, ◌⊎◌, filter}
 use Rattle.std.proofs.lemmas.Bool.{cases_eq}
 use Rattle.pfs_board.specs.declared.view.Label.{Label}
@@ -7,7 +7,7 @@ use Rattle.pfs_event.specs.declared.entry.Entry.{Entry}
 use Rattle.pfs_levels.specs.Calls.{Call, Adds, Rings, Reads, Loads, Draws, Takes, Puts, Frees, Sets, Enters, Leaves, Meets}
 use Rattle.pfs_levels.specs.CallOrder.{AllCalls, top_ticket}
 use Rattle.pfs_levels.specs.CallOrder.{AreRising as CallsRise}
-use Rattle.pfs_levels.specs.JointCalls.{total, one_if, Draw, draws_by, draws_of, drawn, AreDrawn}
+use Rattle.pfs_levels.specs.JointCalls.{total, one_if, Draw, draws_by, draws_of, drawn}
 use Rattle.pfs_model.proofs.EachLists.{each_front, each_behind, each_join}
 use Rattle.pfs_model.proofs.Floors.{each_map}
 use Rattle.pfs_model.specs.Actions.{IsAmong}
@@ -26,7 +26,7 @@ use Rattle.pfs_law_session.specs.Stints.{Stint, block_of, blocks_of, state_by, A
 use Rattle.pfs_law_session.proofs.Stints.{blocks_more}
 use Rattle.pfs_law_plain.specs.RunRules.{entries_of as all_entries}
 use Rattle.pfs_law_plain.specs.SessionNotes.{ToldLaw}
-use Rattle.pfs_law_plain.specs.Spells.{Doing, Spell, AreSpells, around, doing_calls, doings_calls, parts_in, stint_of, stints_of}
+use Rattle.pfs_law_plain.specs.Spells.{Doing, Spell, AreSpells, around, entering, doing_calls, doings_calls, parts_in, stint_of, stints_of}
 use Rattle.pfs_law_plain.specs.Weights.{WeighedLaw}
 use Rattle.pfs_law_joint.proofs.Sums.{total_then}
 use Rattle.pfs_law_shared.specs.Order.{AreSingle}
@@ -34,13 +34,13 @@ use Rattle.pfs_law_shared.specs.Shares.{actors_of, spells_at, spells_before, Are
 use Rattle.pfs_law_shared.specs.Tickets.{IsPlaced, AllPlaced, TicketedLaw}
 use Rattle.pfs_law_shared.proofs.AgreedCalls.{calls_front, calls_back, each_spell}
 use Rattle.pfs_law_shared.proofs.ActedPlaces.{blocks_each, each_both}
-use Rattle.pfs_law_shared.proofs.ActorSums.{IsAdditive, test_sum, cond_sum}
+use Rattle.pfs_law_shared.proofs.ActorSums.{test_sum, cond_sum}
 use Rattle.pfs_law_shared.proofs.DrawnPuts.{drawn_in, drawn_then, puts_in, Match, match_then, part_drawn}
-use Rattle.pfs_law_shared.proofs.FlooredJournals.{IsOf, lines_are}
+use Rattle.pfs_law_shared.proofs.DrawnTickets.{of_draw, sum_to, drawn_sum, sum_whole, sum_one, draws_add, begun}
+use Rattle.pfs_law_shared.proofs.OthersPrinted.{IsOf, lines_are}
 use Rattle.pfs_law_shared.proofs.PhaseCounts.{all_over as over_actors}
 use Rattle.pfs_law_shared.proofs.PhaseWalks.{IsSum, IsKept, same_kept, low_kept, over, over_then, picked_over}
 use Rattle.pfs_law_shared.proofs.PhaseWeights.{AllSit, sit_next, chosen_then}
-use Rattle.pfs_law_shared.proofs.RisingNumbers.{over_next, before_zero}
 
 -- all puts of the long histories, whatever their kind
 abbrev all_puts : List Placed → List LongPut
@@ -56,13 +56,15 @@ part_puts phase session line context [] = refl
 part_puts phase session line context (e ∷ es) = ap (λ z. long_put line e ++ z) (part_puts phase session line (noted (subject_of line) context e) es)
 
 -- of the lines of a block
-around_drawn : (label : Label) (labels : List Label) (action : Option ℕ) (calls : List Call) → drawn_in (around label labels action calls) ≡ drawn_in calls
-around_drawn label labels None calls = refl
-around_drawn label labels (Some number) calls = append-nil (drawn_in (calls ++ Enters label labels ∷ [])) ∙ drawn_then calls (Enters label labels ∷ [])
+around_drawn : (label : Label) (labels : List Label) (met : Option (List ℕ)) (action : Option ℕ) (calls : List Call) → drawn_in (around label labels met action calls) ≡ drawn_in calls
+around_drawn label labels met None calls = refl
+around_drawn label labels None (Some number) calls = append-nil (drawn_in (calls ++ entering label labels None)) ∙ drawn_then calls (entering label labels None)
+around_drawn label labels (Some versions) (Some number) calls =
+    append-nil (drawn_in (calls ++ entering label labels (Some versions))) ∙ drawn_then calls (entering label labels (Some versions))
 
-around_placed : (label : Label) (labels : List Label) (action : Option ℕ) (calls : List Call) → Each IsPlaced (around label labels action calls) → Each IsPlaced calls
-around_placed label labels None calls a = a
-around_placed label labels (Some number) calls a = each_front IsPlaced calls (Enters label labels ∷ []) a.1
+around_placed : (label : Label) (labels : List Label) (met : Option (List ℕ)) (action : Option ℕ) (calls : List Call) → Each IsPlaced (around label labels met action calls) → Each IsPlaced calls
+around_placed label labels met None calls a = a
+around_placed label labels met (Some number) calls a = each_front IsPlaced calls (entering label labels met) a.1
 
 block_match : (phase session : ℕ) (context : Context) (s : State) (ds : List Doing) → AreParts s (parts_in ds) → Each IsPlaced (doings_calls ds)
     → Match (all_puts (placed_lines phase session context (lines_of (parts_in ds)) (entries_of (parts_in ds)))) (drawn_in (doings_calls ds))
@@ -73,10 +75,10 @@ block_match phase session context s (d ∷ ds) are placed =
     let here : List Placed = placed_part phase session line (turned context) entries in
     let next : Context = after context line entries in
     let rest : List Placed = placed_lines phase session next (lines_of (parts_in ds)) (entries_of (parts_in ds)) in
-    let own = part_drawn s d.part are.0 (around_placed d.label d.labels (action_of d.part.deed) (part_calls d.part) (each_behind IsPlaced (doings_calls ds) (doing_calls d) placed)) in
+    let own = (part_drawn s d.part are.0).match (around_placed d.label d.labels d.met (action_of d.part.deed) (part_calls d.part) (each_behind IsPlaced (doings_calls ds) (doing_calls d) placed)) in
     let r = block_match phase session next (state_after s d.part.turns) ds are.1 (each_front IsPlaced (doings_calls ds) (doing_calls d) placed) in
     let draws : drawn_in (doings_calls ds ++ doing_calls d) ≡ drawn_in (part_calls d.part) ++ drawn_in (doings_calls ds) =
-    drawn_then (doings_calls ds) (doing_calls d) ∙ ap (λ z. z ++ drawn_in (doings_calls ds)) (around_drawn d.label d.labels (action_of d.part.deed) (part_calls d.part)) in
+    drawn_then (doings_calls ds) (doing_calls d) ∙ ap (λ z. z ++ drawn_in (doings_calls ds)) (around_drawn d.label d.labels d.met (action_of d.part.deed) (part_calls d.part)) in
     let puts : all_puts (here ++ rest) ≡ puts_in line entries ++ all_puts rest = all_puts_then here rest ∙ ap (λ z. z ++ all_puts rest) (part_puts phase session line (turned context) entries) in
     subst (λ z. Match z (drawn_in (doings_calls ds ++ doing_calls d))) (sym puts) (subst (λ z. Match (puts_in line entries ++ all_puts rest) z) (sym draws)
     (match_then (puts_in line entries) (all_puts rest) (drawn_in (part_calls d.part)) (drawn_in (doings_calls ds)) own r))
@@ -150,9 +152,6 @@ match_shown kind ticket (p ∷ ps) (d ∷ ds) m = at (of_kind kind p) refl (matc
   at true e rest = omega (arith, rest, times_both (λ t. t == ticket) (ticket_shown p.ticket) (tickets_shown (filter (of_kind kind) ps)), shown (sym own ∙ e) m.0.1)
   at false e rest = omega (arith, rest)
 
-abbrev of_draw : ℕ → (ℕ → Bool) → Draw → Bool
-of_draw kind test d = (d.kind == kind) && test d.ticket
-
 match_kind : (kind : ℕ) (g : ℕ → Bool) (ps : List LongPut) (ds : List Draw) → Match ps ds → times (λ p. of_kind kind p && g p.row) ps ≡ times (of_draw kind (λ t. g (long_row kind t))) ds
 match_kind kind g [] [] m = refl
 match_kind kind g [] (d ∷ ds) m = absurd m
@@ -171,33 +170,6 @@ always kind (p ∷ ps) = omega (arith, one (of_kind kind p), always kind ps) whe
   one : (b : Bool) → cond {A = ℕ} b 1 0 ≡ cond {A = ℕ} (b && true) 1 0
   one true = refl
   one false = refl
-
--- the tickets of a list that is drawn are 0, 1 and so on
-abbrev sum_to : (ℕ → Bool) → ℕ → ℕ
-sum_to test zero = 0
-sum_to test (suc n) = sum_to test n + one_if (test n)
-
-drawn_sum : (kind : ℕ) (test : ℕ → Bool) (ds : List Draw) → AreDrawn ds → total (λ d. one_if (of_draw kind test d)) ds ≡ sum_to test (drawn ds kind)
-unfolding total drawn
-drawn_sum kind test [] are = refl
-drawn_sum kind test (d ∷ ds) are = at (d.kind == kind) refl (drawn_sum kind test ds are.1) where
-  at : (b : Bool) → (d.kind == kind) ≡ b → total (λ x. one_if (of_draw kind test x)) ds ≡ sum_to test (drawn ds kind) → one_if (b && test d.ticket) + total (λ x. one_if (of_draw kind test x)) ds ≡ sum_to test (cond b (drawn ds kind + 1) (drawn ds kind))
-  at true e rest =
-      let t : d.ticket ≡ drawn ds kind = are.0 ∙ ap (drawn ds) (eqb-true d.kind kind e) in
-      omega (arith, rest, ap (λ n. one_if (test n)) t, ap (sum_to test) (add-one (drawn ds kind)))
-  at false e rest = omega (arith, rest)
-
-sum_whole : (n : ℕ) → sum_to (λ t. true) n ≡ n
-sum_whole zero = refl
-sum_whole (suc n) = omega (arith, sum_whole n)
-
-sum_one : (ticket n : ℕ) → sum_to (λ t. t == ticket) n ≡ one_if (nat_lt ticket n)
-sum_one ticket zero = sym (ap one_if (none ticket)) where
-  none : (t : ℕ) → nat_lt t 0 ≡ false
-  none t = grind arith
-sum_one ticket (suc n) = omega (arith, sum_one ticket n, step ticket n) where
-  step : (t n : ℕ) → one_if (nat_lt t n) + one_if (n == t) ≡ one_if (nat_lt t (suc n))
-  step t n = grind arith
 
 sum_rows : (kind row from more : ℕ) → sum_to (λ t. long_row kind t == row) (from + more) ≡ sum_to (λ t. long_row kind t == row) from + tickets_of_row kind row from more
 sum_rows kind row from zero = omega (arith, ap (sum_to (λ t. long_row kind t == row)) (plain from)) where
@@ -230,7 +202,7 @@ module _ (told : ToldLaw) (R : ℕ → ℕ → Type 0) (kept : IsKept R) (sum : 
   of_block true here n r = r
   of_block false here n r = subst (λ z. R z 0) (sym is_sum.none) kept.none
 
-  picked : (earlier : List Stint) (phase : ℕ) (spells : List Spell) → AllSit stack depths earlier → AreStintsBehind stack depths earlier phase (stints_of spells) → Each F spells
+  pub picked : (earlier : List Stint) (phase : ℕ) (spells : List Spell) → AllSit stack depths earlier → AreStintsBehind stack depths earlier phase (stints_of spells) → Each F spells
       → R (sum (chosen (λ p. pick p.phase) (places_behind (blocks_of earlier) (blocks_of (stints_of spells))))) (sum_picked spells)
   unfolding places_behind
   picked earlier phase [] all are facts = subst (λ z. R z 0) (sym is_sum.none) kept.none
@@ -254,38 +226,23 @@ module _ (told : ToldLaw) (R : ℕ → ℕ → Type 0) (kept : IsKept R) (sum : 
       subst (λ z. R z (sum_picked spells + cond b (weigh spell) 0)) (sym split) (kept.both (sum (cond b here [])) (cond b (weigh spell) 0) (sum (chosen (λ p. pick p.phase) rest)) (sum_picked spells) own moved)
 
 -- facts of the actors, spell by spell
-each_actor : (P : List Call → Type 0) (spells : List Spell) → AllCalls P (actors_of spells) → Each (λ spell. P (doings_calls spell.doings)) spells
+pub each_actor : (P : List Call → Type 0) (spells : List Spell) → AllCalls P (actors_of spells) → Each (λ spell. P (doings_calls spell.doings)) spells
 each_actor P [] all = tt
 each_actor P (spell ∷ spells) all = ((calls_back P (actors_of spells) (doings_calls spell.doings ∷ []) all).0, each_actor P spells (calls_front P (actors_of spells) (doings_calls spell.doings ∷ []) all))
-
--- sums of draws
-draws_both : (xs ys : List Call) → draws_of (xs ++ ys) ≡ draws_of xs ++ draws_of ys
-unfolding draws_of
-draws_both [] ys = refl
-draws_both (x ∷ xs) ys = ap (λ z. draws_by x ++ z) (draws_both xs ys) ∙ sym (append_assoc (draws_by x) (draws_of xs) (draws_of ys))
-
-draws_add : (h : Draw → ℕ) → IsAdditive (λ calls. total h (draws_of calls))
-unfolding total draws_of
-draws_add h = record {
-  none = refl;
-  both = λ xs ys. ap (total h) (draws_both xs ys) ∙ total_then h (draws_of xs) (draws_of ys);
-  enters = λ label labels. refl;
-  leaves = refl;
-}
 
 module _ (weigh : List Call → ℕ) where
   abbrev by_spell : Spell → ℕ
   by_spell spell = weigh (doings_calls spell.doings)
 
-  at_sum : (phase : ℕ) (spells : List Spell) → over weigh (actors_of (spells_at phase spells)) ≡ sum_of (λ q. q == phase) by_spell spells
+  pub at_sum : (phase : ℕ) (spells : List Spell) → over weigh (actors_of (spells_at phase spells)) ≡ sum_of (λ q. q == phase) by_spell spells
   at_sum phase [] = refl
   at_sum phase (x ∷ xs) = picked_over weigh (x.phase == phase) x (spells_at phase xs) ∙ ap (λ n. n + cond (x.phase == phase) (by_spell x) 0) (at_sum phase xs)
 
-  before_sum : (phase : ℕ) (spells : List Spell) → over weigh (actors_of (spells_before phase spells)) ≡ sum_of (λ q. nat_lt q phase) by_spell spells
+  pub before_sum : (phase : ℕ) (spells : List Spell) → over weigh (actors_of (spells_before phase spells)) ≡ sum_of (λ q. nat_lt q phase) by_spell spells
   before_sum phase [] = refl
   before_sum phase (x ∷ xs) = picked_over weigh (nat_lt x.phase phase) x (spells_before phase xs) ∙ ap (λ n. n + cond (nat_lt x.phase phase) (by_spell x) 0) (before_sum phase xs)
 
-  up_to_sum : (phase : ℕ) (spells : List Spell) → sum_of (λ q. q == phase) by_spell spells + sum_of (λ q. nat_lt q phase) by_spell spells ≡ sum_of (λ q. nat_le q phase) by_spell spells
+  pub up_to_sum : (phase : ℕ) (spells : List Spell) → sum_of (λ q. q == phase) by_spell spells + sum_of (λ q. nat_lt q phase) by_spell spells ≡ sum_of (λ q. nat_le q phase) by_spell spells
   up_to_sum phase [] = refl
   up_to_sum phase (x ∷ xs) = omega (arith, up_to_sum phase xs, cond_sum (x.phase == phase) (nat_lt x.phase phase) (nat_le x.phase phase) (by_spell x) (test_sum x.phase phase))
 
@@ -509,30 +466,6 @@ module _ (told : ToldLaw) (session phase kind stack : ℕ) (depths : ℕ → ℕ
       ] where
         moved_on : (spell : Spell) (rest here : List Placed) → Each (IsOf spell.phase spell.session) here → (spell.session ≡ session → spell.phase ≡ phase → ⊥) → Rises 0 (Shown (Mine rest)) → Rises 0 (Shown (Mine (here ++ rest)))
         moved_on spell rest here each not r = subst (λ z. Rises 0 (Shown z)) (sym (mine_then here rest ∙ ap (λ z. z ++ Mine rest) (none_of spell.phase spell.session here not each))) r
-
--- the tickets that were drawn before a phase
-pub record IsBegun (spells : List Spell) (phase : ℕ) : Type 0 where
-  pub draws : List Draw
-  pub drawn_is : AreDrawn draws
-  pub same : (h : Draw → ℕ) → over (λ calls. total h (draws_of calls)) (actors_of (spells_before phase spells)) ≡ total h draws
-
-begun : (flags : List ℕ) (spells : List Spell) → AreShared flags spells → (phase : ℕ) → IsBegun spells phase
-unfolding total
-begun flags spells shared zero = record { draws = []; drawn_is = tt; same = λ h. ap (λ z. over (λ calls. total h (draws_of calls)) (actors_of z)) (before_zero spells) }
-begun flags spells shared (suc phase) =
-    let now : List (List Call) = actors_of (spells_at phase spells) in
-    let before : List (List Call) = actors_of (spells_before phase spells) in
-    record {
-      draws = (shared phase).draws;
-      drawn_is = (shared phase).joint.tickets;
-      same = λ h. omega (
-        arith,
-        over_next (λ calls. total h (draws_of calls)) phase spells,
-        over_then (λ calls. total h (draws_of calls)) now before,
-        over_actors (λ calls. total h (draws_of calls)) (draws_add h) (now ++ before),
-        (shared phase).joint.draws_once h,
-      );
-    }
 
 -- all of a phase
 module _ (told : ToldLaw) (weights : WeighedLaw) (flags : List ℕ) (stack : ℕ) (depths : ℕ → ℕ) (spells : List Spell) (last : ℕ) (are : AreSpells stack depths spells) (shared : AreShared flags spells) (placed : AllPlaced spells) (single : AreSingle spells)

@@ -8,7 +8,7 @@ use Rattle.pfs_levels.specs.declared.answers.Added.TheVariants.{Counted, Held}
 use Rattle.pfs_levels.specs.declared.answers.RingPut.TheVariants.{Done, Busy, Late}
 use Rattle.pfs_rows.specs.declared.table.Seen.TheVariants as seen
 use Rattle.pfs_model.specs.Chains.{Each}
-use Rattle.pfs_law_plain.specs.Spells.{Spell, around, doings_calls, calls_of}
+use Rattle.pfs_law_plain.specs.Spells.{Spell, around, entering, doings_calls, calls_of}
 use Rattle.pfs_law_shared.specs.Shares.{actors_of}
 use Rattle.pfs_law_shared.specs.Order.{IsNear, NearLaw}
 
@@ -50,9 +50,9 @@ pub near_front : (xs ys : List Call) → Each IsNear (xs ++ ys) → Each IsNear 
 near_front [] ys a = tt
 near_front (x ∷ xs) ys a = (a.0, near_front xs ys a.1)
 
-pub around_near : (label : Label) (labels : List Label) (action : Option ℕ) (calls : List Call) → Each IsNear (around label labels action calls) → Each IsNear calls
-around_near label labels None calls a = a
-around_near label labels (Some number) calls a = near_front calls (Enters label labels ∷ []) a.1
+pub around_near : (label : Label) (labels : List Label) (met : Option (List ℕ)) (action : Option ℕ) (calls : List Call) → Each IsNear (around label labels met action calls) → Each IsNear calls
+around_near label labels met None calls a = a
+around_near label labels met (Some number) calls a = near_front calls (entering label labels met) a.1
 
 both : (xs ys : List (List Call)) → AllCalls (Each IsNear) xs → AllCalls (Each IsNear) ys → AllCalls (Each IsNear) (xs ++ ys)
 both [] ys a b = b

@@ -29,13 +29,13 @@ use Rattle.pfs_law_joint.specs.Deeds.{RowsLaw, WordsLaw}
 use Rattle.pfs_law_joint.specs.Versions.{ChainLaw, MarksLaw, at_mark}
 use Rattle.pfs_law_shared.specs.Journals.{AgreedLaw}
 use Rattle.pfs_law_plain.specs.SessionNotes.{ToldLaw, ToldThroughLaw}
-use Rattle.pfs_law_plain.specs.Spells.{Doing, Spell, AreSpells, around, doing_calls, doings_calls, parts_in, stints_of}
+use Rattle.pfs_law_plain.specs.Spells.{Doing, Spell, AreSpells, around, entering, doing_calls, doings_calls, parts_in, stints_of}
 use Rattle.pfs_law_shared.specs.Order.{AllNear}
 use Rattle.pfs_law_shared.proofs.OrderedActions.{numbers_are}
 use Rattle.pfs_law_shared.specs.Shares.{actors_of, spells_at, spells_before, AreShared}
 use Rattle.pfs_law_shared.proofs.ActionNotes.{acts, act_by, acts_of, places_acts, own_acts, stints_acts}
 use Rattle.pfs_law_shared.proofs.AgreedCalls.{calls_front, calls_back, each_spell}
-use Rattle.pfs_law_shared.proofs.DoingMarks.{within_action}
+use Rattle.pfs_law_shared.proofs.DoingMarks.{within_action, entering_action}
 use Rattle.pfs_law_shared.proofs.LabelWork.{StandsAmong, StandAmong, AllStandAmong}
 use Rattle.pfs_law_shared.proofs.InnerCalls.{AreWithin, turns_within, calls_within}
 
@@ -83,17 +83,26 @@ take_front (x ∷ xs) ys = ap (λ z. x ∷ z) (take_front xs ys)
 one_less : (n : ℕ) → (n + 1) - 1 ≡ n
 one_less n = omega arith
 
-around_labelled : (all : List Label) (past : List Call) (label : Label) (labels : List Label) (action : Option ℕ) (calls : List Call) → AreWithin calls → AreNamed all (around label labels action calls ++ past)
+entering_label : (past : List Call) (label : Label) (labels : List Label) (met : Option (List ℕ)) → label_in (entering label labels met ++ past) ≡ label
+entering_label past label labels None = refl
+entering_label past label labels (Some versions) = refl
+
+entering_named : (all : List Label) (past : List Call) (label : Label) (labels : List Label) (met : Option (List ℕ)) → AreNamed all (entering label labels met ++ past) → (later : List Label) × (all ≡ labels ++ later)
+entering_named all past label labels None named = named.0
+entering_named all past label labels (Some versions) named = named.1.0
+
+around_labelled : (all : List Label) (past : List Call) (label : Label) (labels : List Label) (met : Option (List ℕ)) (action : Option ℕ) (calls : List Call) → AreWithin calls → AreNamed all (around label labels met action calls ++ past)
     → IfSome action (λ number. IsLabelled all label labels)
-around_labelled all past label labels None calls w named = tt
-around_labelled all past label labels (Some number) calls w named =
-    let split : (calls ++ Enters label labels ∷ []) ++ past ≡ calls ++ Enters label labels ∷ past = append_assoc calls (Enters label labels ∷ []) past in
-    let a : action_in ((calls ++ Enters label labels ∷ []) ++ past) ≡ length labels + 1 = ap action_in split ∙ within_action calls (Enters label labels ∷ past) w in
-    let l : label_in ((calls ++ Enters label labels ∷ []) ++ past) ≡ label = ap label_in split ∙ within_label calls (Enters label labels ∷ past) w in
-    let inner : AreNamed all (Enters label labels ∷ past) = named_back all calls (Enters label labels ∷ past) (subst (AreNamed all) split named.1) in
+around_labelled all past label labels met None calls w named = tt
+around_labelled all past label labels met (Some number) calls w named =
+    let base : List Call = entering label labels met ++ past in
+    let split : (calls ++ entering label labels met) ++ past ≡ calls ++ base = append_assoc calls (entering label labels met) past in
+    let a : action_in ((calls ++ entering label labels met) ++ past) ≡ length labels + 1 = ap action_in split ∙ (within_action calls base w ∙ entering_action past label labels met) in
+    let l : label_in ((calls ++ entering label labels met) ++ past) ≡ label = ap label_in split ∙ (within_label calls base w ∙ entering_label past label labels met) in
+    let inner = entering_named all past label labels met (named_back all calls base (subst (AreNamed all) split named.1)) in
     record {
       index = sym (ap (λ n. slice_index_or all (n - 1) no_label) a ∙ ap (λ n. slice_index_or all n no_label) (one_less (length labels))) ∙ (named.0 ∙ l);
-      before = ap (take (length labels)) inner.0.1 ∙ take_front labels inner.0.0;
+      before = ap (take (length labels)) inner.1 ∙ take_front labels inner.0;
     }
 
 doings_labelled : (all : List Label) (past : List Call) (s : State) (ds : List Doing) → AreParts s (parts_in ds) → AreNamed all (doings_calls ds ++ past) → StandLabelled all ds
@@ -101,7 +110,7 @@ doings_labelled all past s [] are named = tt
 doings_labelled all past s (d ∷ ds) are named =
     let moved : AreNamed all (doings_calls ds ++ (doing_calls d ++ past)) = subst (AreNamed all) (append_assoc (doings_calls ds) (doing_calls d) past) named in
     let w = calls_within d.part.turns (turns_within s d.part.turns are.0.are_turns) in (
-      around_labelled all past d.label d.labels (action_of d.part.deed) (part_calls d.part) w (named_back all (doings_calls ds) (doing_calls d ++ past) moved),
+      around_labelled all past d.label d.labels d.met (action_of d.part.deed) (part_calls d.part) w (named_back all (doings_calls ds) (doing_calls d ++ past) moved),
       doings_labelled all (doing_calls d ++ past) (state_after s d.part.turns) ds are.1 moved,
     )
 

@@ -3,7 +3,7 @@ use Rattle.std.proofs.Common.{ℕ, zero, suc, ◌≡◌, ◌+◌, ◌<◌, ◌�
 use Rattle.std.specs.Prelude.{nat_lt, nat_le}
 use Rattle.std.proofs.lemmas.Bool.{cases_lt, eqb-true, and_from}
 use Rattle.pfs_board.specs.declared.view.Label.{Label}
-use Rattle.pfs_levels.specs.Calls.{Call, Enters, action_in}
+use Rattle.pfs_levels.specs.Calls.{Call, action_in}
 use Rattle.pfs_levels.specs.CallOrder.{marks_of, all_marks, word_marks_of, all_word_marks, marked, published, top_in}
 use Rattle.pfs_levels.specs.CallOrder.{AreRising as CallsRise}
 use Rattle.pfs_levels.specs.JointCalls.{total, one_if, At}
@@ -20,7 +20,7 @@ use Rattle.pfs_law_plain.proofs.ActionCounts.{AreLined, AllLined, more_made, non
 use Rattle.pfs_law_plain.proofs.ConnectSlots.{own_doings}
 use Rattle.pfs_law_plain.specs.RunRules.{entries_of}
 use Rattle.pfs_law_plain.specs.SessionNotes.{ToldThroughLaw}
-use Rattle.pfs_law_plain.specs.Spells.{Doing, Spell, AreSpells, around, doing_calls, doings_calls, parts_in, stints_of}
+use Rattle.pfs_law_plain.specs.Spells.{Doing, Spell, AreSpells, around, entering, doing_calls, doings_calls, parts_in, stints_of}
 use Rattle.pfs_law_joint.proofs.NamedVersions.{row_grows, rises_back}
 use Rattle.pfs_law_joint.proofs.VersionChains.{mark_chain, not_there}
 use Rattle.pfs_law_joint.proofs.MarkSums.{marked_same}
@@ -29,7 +29,7 @@ use Rattle.pfs_law_shared.specs.Order.{AreSingle}
 use Rattle.pfs_law_shared.specs.Shares.{actors_of, spells_at, spells_before, AreShared}
 use Rattle.pfs_law_shared.proofs.ActionNotes.{act_by, acts_of}
 use Rattle.pfs_law_shared.proofs.AgreedCalls.{calls_front, calls_back, each_spell}
-use Rattle.pfs_law_shared.proofs.DoingMarks.{acted, own_number, doings_weigh, AreCounted, counted_marks, within_action}
+use Rattle.pfs_law_shared.proofs.DoingMarks.{acted, own_number, doings_weigh, AreCounted, counted_marks, within_action, entering_action}
 use Rattle.pfs_law_shared.proofs.InnerCalls.{AreWithin, turns_within, calls_within}
 use Rattle.pfs_law_shared.proofs.OrderedActions.{marks_over, word_marks_over}
 use Rattle.pfs_law_shared.proofs.PhaseWalks.{over, over_then, picked_over}
@@ -96,22 +96,27 @@ rise_acts m (d ∷ ds) r = by (action_of d.part.deed) r.0 (rise_acts (next_top m
   by (Some number) up rest = ((up, above_lower m number (acts_of (parts_in ds)) up rest.0), rest)
 
 -- within a phase
-around_rises : (past : List Call) (label : Label) (labels : List Label) (action : Option ℕ) (calls : List Call) (ds : List Doing) → AreWithin calls → IfSome action (λ number. number ≡ length labels + 1)
-    → CallsRise (around label labels action calls ++ past) → Rise (top_in (around label labels action calls ++ past) 0) ds
+entering_above : (past : List Call) (label : Label) (labels : List Label) (met : Option (List ℕ)) → CallsRise (entering label labels met ++ past) → top_in past 0 ≤ length labels
+entering_above past label labels None rising = rising.0
+entering_above past label labels (Some versions) rising = rising.1.0
+
+around_rises : (past : List Call) (label : Label) (labels : List Label) (met : Option (List ℕ)) (action : Option ℕ) (calls : List Call) (ds : List Doing) → AreWithin calls → IfSome action (λ number. number ≡ length labels + 1)
+    → CallsRise (around label labels met action calls ++ past) → Rise (top_in (around label labels met action calls ++ past) 0) ds
     → IfSome action (λ number. top_in past 0 < number) × Rise (next_top (top_in past 0) action) ds
-around_rises past label labels None calls ds w counts rising rest = (tt, rise_lower (top_in past 0) (top_in (calls ++ past) 0) ds (row_grows calls past 0 rising) rest)
-around_rises past label labels (Some number) calls ds w counts rising rest =
-    let split : (calls ++ Enters label labels ∷ []) ++ past ≡ calls ++ Enters label labels ∷ past = append_assoc calls (Enters label labels ∷ []) past in
-    let a : action_in ((calls ++ Enters label labels ∷ []) ++ past) ≡ number = ap action_in split ∙ (within_action calls (Enters label labels ∷ past) w ∙ sym counts) in
-    let inner = rises_back calls (Enters label labels ∷ past) (subst CallsRise split rising.1) in
-    (omega (arith, inner.0, counts), subst (λ n. Rise n ds) a rest)
+around_rises past label labels met None calls ds w counts rising rest = (tt, rise_lower (top_in past 0) (top_in (calls ++ past) 0) ds (row_grows calls past 0 rising) rest)
+around_rises past label labels met (Some number) calls ds w counts rising rest =
+    let base : List Call = entering label labels met ++ past in
+    let split : (calls ++ entering label labels met) ++ past ≡ calls ++ base = append_assoc calls (entering label labels met) past in
+    let a : action_in ((calls ++ entering label labels met) ++ past) ≡ number = ap action_in split ∙ (within_action calls base w ∙ (entering_action past label labels met ∙ sym counts)) in
+    let inner = rises_back calls base (subst CallsRise split rising.1) in
+    (omega (arith, entering_above past label labels met inner, counts), subst (λ n. Rise n ds) a rest)
 
 rises : (past : List Call) (s : State) (ds : List Doing) → AreParts s (parts_in ds) → AreCounted ds → CallsRise (doings_calls ds ++ past) → Rise (top_in past 0) ds
 rises past s [] are counts rising = tt
 rises past s (d ∷ ds) are counts rising =
     let moved : CallsRise (doings_calls ds ++ (doing_calls d ++ past)) = subst CallsRise (append_assoc (doings_calls ds) (doing_calls d) past) rising in
     let w = calls_within d.part.turns (turns_within s d.part.turns are.0.are_turns) in
-    around_rises past d.label d.labels (action_of d.part.deed) (part_calls d.part) ds w counts.0 (rises_back (doings_calls ds) (doing_calls d ++ past) moved)
+    around_rises past d.label d.labels d.met (action_of d.part.deed) (part_calls d.part) ds w counts.0 (rises_back (doings_calls ds) (doing_calls d ++ past) moved)
     (rises (doing_calls d ++ past) (state_after s d.part.turns) ds are.1 counts.1 moved)
 
 lined_counted : (session made : ℕ) (ds : List Doing) → AreLined session made ds → AreCounted ds

@@ -9,7 +9,7 @@ use Rattle.pfs_session.specs.Turns.{state_after}
 use Rattle.pfs_law_session.specs.Deeds.{action_of, part_calls}
 use Rattle.pfs_law_session.specs.JournalLaws.{AreParts}
 use Rattle.pfs_law_session.specs.Stints.{AreDone}
-use Rattle.pfs_law_plain.specs.Spells.{Doing, Spell, around, doing_calls, doings_calls, parts_in, stints_of}
+use Rattle.pfs_law_plain.specs.Spells.{Doing, Spell, around, entering, doing_calls, doings_calls, parts_in, stints_of}
 use Rattle.pfs_law_joint.specs.Phases.{BeginsOutside, BeginOutside, AreWhole}
 use Rattle.pfs_law_shared.specs.Shares.{actors_of}
 use Rattle.pfs_law_shared.proofs.InnerCalls.{AreWithin, turns_within, calls_within}
@@ -81,15 +81,16 @@ within_whole (Puts row content version ∷ xs) w = let r = within_whole xs w.1 i
 within_whole (Frees row version ∷ xs) w = let r = within_whole xs w.1 in record { outside = (tt, r.outside); ended = r.ended }
 within_whole (Sets at flags version ∷ xs) w = let r = within_whole xs w.1 in record { outside = (tt, r.outside); ended = r.ended }
 
-pub around_whole : (label : Label) (labels : List Label) (action : Option ℕ) (calls : List Call) → AreWithin calls → AreWhole (around label labels action calls)
-around_whole label labels None calls w = within_whole calls w
-around_whole label labels (Some number) calls w = record { outside = (tt, within_begin calls (Enters label labels ∷ []) w (refl, tt)); ended = refl }
+pub around_whole : (label : Label) (labels : List Label) (met : Option (List ℕ)) (action : Option ℕ) (calls : List Call) → AreWithin calls → AreWhole (around label labels met action calls)
+around_whole label labels met None calls w = within_whole calls w
+around_whole label labels None (Some number) calls w = record { outside = (tt, within_begin calls (entering label labels None) w (refl, tt)); ended = refl }
+around_whole label labels (Some versions) (Some number) calls w = record { outside = (tt, within_begin calls (entering label labels (Some versions)) w (tt, (refl, tt))); ended = refl }
 
 doings_whole : (s : State) (ds : List Doing) → AreParts s (parts_in ds) → AreWhole (doings_calls ds)
 doings_whole s [] are = record { outside = tt; ended = refl }
 doings_whole s (d ∷ ds) are =
     whole_then (doings_calls ds) (doing_calls d) (doings_whole (state_after s d.part.turns) ds are.1)
-    (around_whole d.label d.labels (action_of d.part.deed) (part_calls d.part) (calls_within d.part.turns (turns_within s d.part.turns are.0.are_turns)))
+    (around_whole d.label d.labels d.met (action_of d.part.deed) (part_calls d.part) (calls_within d.part.turns (turns_within s d.part.turns are.0.are_turns)))
 
 all_then : (P : List Call → Type 0) (xs ys : List (List Call)) → AllCalls P xs → AllCalls P ys → AllCalls P (xs ++ ys)
 all_then P [] ys a b = b

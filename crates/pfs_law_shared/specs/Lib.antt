@@ -5,3 +5,4 @@ pub mod Floors
 pub mod Labels
 pub mod Rules
 pub mod Tickets
+pub mod Joined

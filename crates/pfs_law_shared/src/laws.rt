@@ -1,12 +1,13 @@
 //! Laws of the definitions.
 
 ghost use Rattle.pfs_law_shared.specs.Floors.{FlooredLaw};
+ghost use Rattle.pfs_law_shared.specs.Joined.{JoinedLaw};
 ghost use Rattle.pfs_law_shared.specs.Journals.{AgreedLaw, ChainedLaw};
 ghost use Rattle.pfs_law_shared.specs.Labels.{LabelledLaw};
 ghost use Rattle.pfs_law_shared.specs.Order.{NearLaw, OrderedLaw, RisingLaw, ThereLaw};
 ghost use Rattle.pfs_law_shared.specs.Rules.{RuledLaw};
 ghost use Rattle.pfs_law_shared.specs.Shares.{PlainLaw};
-ghost use Rattle.pfs_law_shared.specs.Tickets.{PlacedLaw, TicketedLaw};
+ghost use Rattle.pfs_law_shared.specs.Tickets.{ApartLaw, PlacedLaw, RisenLaw, TicketedLaw};
 
 /// At each phase's end the changes of rows that the journals of sessions at once print are chains along each row, and
 /// their sets of words along each word, whoever ran when, held and settled additions among them.
@@ -59,8 +60,8 @@ pub fn there()
 }
 
 /// Each line is above, or not below, what its session must have seen: what stood as its phase began, what the session's
-/// lines before it show, and what the actions gave that had ended. What was held or busy, or found a row vacant, has its
-/// cause; that of what came late is left out.
+/// lines before it show, and what the actions gave that had ended. What was held, busy or late, or found a row vacant,
+/// has its cause.
 pub fn floored()
     ensures { FlooredLaw }
 {
@@ -86,8 +87,9 @@ pub fn labelled()
     pfs_law_plain::journals::weighed();
 }
 
-/// With the administration that is the fold of their actions, sessions at once keep the rules of a run that go by shapes,
-/// chains, orders, verdicts, labels and contents: all but floors, causes, tickets and the places of the long history.
+/// With the administration that is the fold of their actions, sessions at once keep the rules of a run that go by
+/// shapes, chains, orders, verdicts, labels and contents: all but floors, causes, tickets and the places of the long
+/// history.
 pub fn ruled()
     ensures { RuledLaw }
 {
@@ -101,13 +103,40 @@ pub fn ruled()
     pfs_stat::laws::merge();
 }
 
-/// Phase by phase each place of a long history has as many puts as there are tickets of it; these stand at their places,
-/// each once, and rise along a session.
+/// Phase by phase each place of a long history has as many puts as there are tickets of it; these stand at their
+/// places, each once, and rise along a session.
 pub fn ticketed()
     ensures { TicketedLaw }
 {
     pfs_law_plain::journals::told();
     pfs_law_plain::journals::weighed();
+}
+
+/// Along a place of a long history tickets rise with the versions, between two releases, where no addition and nothing
+/// that an action puts names such a place.
+pub fn risen()
+    ensures { RisenLaw }
+{
+    pfs_law_plain::journals::told();
+    pfs_law_plain::journals::weighed();
+}
+
+/// Sessions whose actions are those of the fold add to cells and rows of digests, and put to these and to info rows:
+/// none of it is a place of a long history.
+pub fn apart()
+    ensures { ApartLaw }
+{}
+
+/// All together: the labels that sessions at once have in common are those of the printed actions, and their journals
+/// keep the rules of a run.
+pub fn joined()
+    ensures { JoinedLaw }
+{
+    apart();
+    floored();
+    risen();
+    ruled();
+    ticketed();
 }
 
 /// A plain store that its sessions use one after another gives what they have in common; their calls name its rows and
