@@ -86,6 +86,23 @@ fresh_hand v f r = ap in_hand (f.idle r)
 pub fresh_held : (v : View) → IsFresh v → held v.rows ≡ 0
 fresh_held v f = held_none v.rows (fresh_hand v f)
 
+-- no call led to it
+pub fresh_on : (start : Start) (v : View) → IsFresh v → v.number ≡ start.number → v.base ≡ start.base → stake v ≡ start.stake → OnBoard start [] v
+fresh_on start v f number base stk = record {
+  number_is = number;
+  base_is = base;
+  stake_is = stk;
+  tied = f.made;
+  shown = tt;
+  taken = λ row some h. absurd (no_true (is_holding (corner v row).stage) (holding_not (corner v row).stage (fresh_hand v f row)) h);
+  hand = λ row some. fresh_hand v f row;
+  action = f.action;
+  after = f.after;
+  label = f.label;
+  labels = λ h. absurd (omega (arith, h));
+  seen = λ row. omega arith;
+}
+
 -- a seat that doesn't hold row 0 is in no action
 pub outside_is : (v : View) → IsPoised v → in_hand (corner v 0).stage ≡ None → v.action ≡ 0
 outside_is v p none = elim (cases_eq v.action 0) [

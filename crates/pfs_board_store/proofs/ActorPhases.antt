@@ -27,7 +27,6 @@ use Rattle.pfs_board_store.specs.RootActors.{Worked, calls_of_all, AreParts, All
 use Rattle.pfs_board_store.specs.ActorPhases.{AllMetSince, AllLater, SinceLaw}
 use Rattle.pfs_board_store.specs.RootLaws.{content_of, IsRunsBoard}
 use Rattle.pfs_board_store.specs.Ties.{IsMade, IsTied, IsSighted, IsFinished, AreLoaded, AreShown}
-use Rattle.pfs_board_store.proofs.CallContents.{read_is}
 use Rattle.pfs_board_store.proofs.WordFlags.{IsSo}
 use Rattle.pfs_board_store.proofs.Floors.{level_up}
 use Rattle.pfs_board_store.proofs.ChangeOrder.{counts, all_ats, all_marked}

@@ -10,7 +10,7 @@ use Rattle.pfs_board.specs.Knowledge.{newcomer, is_holding, held}
 use Rattle.pfs_board.proofs.VersionFacts.{each_made}
 use Rattle.pfs_levels.specs.CallOrder.{Mark, marks_of, all_word_marks, AllCalls, AreFloored, AreCaused}
 use Rattle.pfs_board_store.specs.RootActors.{Worked, calls_of_all, AreParts, AllShown, AllDone, AreChanged, marks_in}
-use Rattle.pfs_board_store.specs.RootLaws.{content_of, settings_in, IsRunsBoard, OrderLaw}
+use Rattle.pfs_board_store.specs.RootLaws.{settings_in, IsRunsBoard, OrderLaw}
 use Rattle.pfs_board_store.specs.Ties.{IsTied}
 use Rattle.pfs_board_store.proofs.Causes.{Covers, own_made, caused}
 use Rattle.pfs_board_store.proofs.Floors.{Below, all_below, floored}

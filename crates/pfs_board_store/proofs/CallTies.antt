@@ -7,14 +7,15 @@ use Rattle.pfs_board.specs.declared.view.Sight.{Sight}
 use Rattle.pfs_board.specs.declared.view.Stage.{Stage}
 use Rattle.pfs_board.specs.declared.view.Stage.TheVariants.{Idle, Reading, Holding}
 use Rattle.pfs_board.specs.declared.view.View.{View}
-use Rattle.pfs_board.specs.Knowledge.{corner, turned, is_holding, weighed, sighted, sight_of, read_of, change_of, no_label, published_at, took, stake}
-use Rattle.pfs_levels.specs.Calls.{Call, Adds, Takes, Start, action_in, after_in, label_in, hand_in}
+use Rattle.pfs_board.specs.Knowledge.{corner, turned, is_holding, weighed, sighted, sight_of, read_of, change_of, ended_with, freed_at, no_label, published_at, took, stake, version_held}
+use Rattle.pfs_levels.specs.Calls.{Call, Adds, Frees, Leaves, Puts, Rings, Takes, Start, action_in, after_in, label_in, hand_in}
 use Rattle.pfs_levels.specs.RowWords.{merged}
 use Rattle.pfs_levels.specs.CallOrder.{top_in}
 use Rattle.pfs_levels.specs.declared.answers.Added.TheVariants.{Counted}
+use Rattle.pfs_levels.specs.declared.answers.RingPut.TheVariants.{Done}
 use Rattle.pfs_stat.specs.declared.Stat.{Stat}
 use Rattle.pfs_board_store.specs.ActorCalls.{OnBoard, in_hand, labels_in}
-use Rattle.pfs_board_store.specs.Ties.{AreAnothers, IsTied, IsSighted, IsFinished, AreShown, last_found}
+use Rattle.pfs_board_store.specs.Ties.{AreAnothers, IsTied, IsSighted, IsFinished, AreShown, WasOlder, last_found}
 use Rattle.pfs_board_store.proofs.KeptCalls.{all_within, one_more, shown_more}
 use Rattle.pfs_board_store.proofs.ViewCorners.{reach, here_if, away_if}
 
@@ -76,6 +77,59 @@ add_done start calls v w row version k at amount found taken_at put some low is 
     (λ h. absurd (no_true false refl h)) (λ q n. sym (away_if row q taken_at (last_found calls q) n)) (λ z. sym r.tied.1) (λ q n. sym (away_if row q (Some at) (hand_in calls q) n))
     (λ q n. away_if row q version (top_in calls q) n ∙ sym (away_if row q at (top_in calls q) n))
     (omega (arith, here_if row version (top_in calls row), next)) (ap (λ (z : View). z.action) is ∙ r.action) (ap (λ (z : View). z.after) is ∙ r.after) (ap (λ (z : View). z.label) is ∙ r.label) (λ h. ap (λ (z : View). z.labels) is ∙ r.labels h)
+
+-- so was an event, written over it
+pub ring_done : (start : Start) (calls : List Call) (v w : View) (row version k at : ℕ) (content found taken_at : List ℕ) → 0 < row → row < length v.rows → w ≡ published_at (weighed v) row k found content → version ≡ k + 1
+    → (10242 ≤ row → (n : ℕ) × (version ≡ n + 1) × WasOlder start v.reads v.sights row n content (action_in calls) (after_in calls)) → stake w ≡ stake v → OnBoard start (Takes row at taken_at ∷ calls) v → OnBoard start (Rings row content (Done version) ∷ calls) w
+ring_done start calls v w row version k at content found taken_at some low is next older stk r = let more : List Call = Rings row content (Done version) ∷ calls in
+    reach start (Takes row at taken_at ∷ calls) more v w row (sighted Idle (4 * (k + 1) + 2)) low (ap (λ (z : View). z.rows) is) (ap (λ (z : View). z.number) is) (ap (λ (z : View). z.base) is) stk r
+    (tied_as start more (change_of v row (k + 1) true no_label found content ∷ v.made) w.made (ap (λ (z : View). z.made) is)
+    (some, record { by_is = r.number_is; base_is = r.base_is; action_is = r.action; after_is = r.after; row_is = refl; version_is = sym next; puts_is = refl }, refl, r.tied.2))
+    (shown_as start more v.reads w.reads v.sights w.sights v.entered w.entered (ap (λ (z : View). z.reads) is) (ap (λ (z : View). z.sights) is) (ap (λ (z : View). z.entered) is) (older, r.shown.1))
+    (λ h. absurd (no_true false refl h)) (λ q n. sym (away_if row q taken_at (last_found calls q) n)) (λ z. sym r.tied.1) (λ q n. sym (away_if row q (Some at) (hand_in calls q) n))
+    (λ q n. away_if row q version (top_in calls q) n ∙ sym (away_if row q at (top_in calls q) n))
+    (omega (arith, here_if row version (top_in calls row), next)) (ap (λ (z : View). z.action) is ∙ r.action) (ap (λ (z : View). z.after) is ∙ r.after) (ap (λ (z : View). z.label) is ∙ r.label) (λ h. ap (λ (z : View). z.labels) is ∙ r.labels h)
+
+pub some_is : (a b : ℕ) → Some a ≡ Some b → a ≡ b
+some_is a b e = cc
+
+-- the version at which a row in hand was taken
+pub held_at : (s : Stage) → IsSome (in_hand s) → in_hand s ≡ Some (version_held s)
+held_at Idle h = absurd (no_true false refl h)
+held_at (Reading k xs) h = absurd (no_true false refl h)
+held_at (Holding k found put) h = refl
+
+-- a content was put into a row in hand
+pub put_done : (start : Start) (calls : List Call) (v w : View) (row version k : ℕ) (content found : List ℕ) → 0 < row → row < length v.rows → w ≡ published_at (weighed v) row k found content → version ≡ k + 1 → found ≡ last_found calls row → hand_in calls row ≡ Some k
+    → stake w ≡ stake v → OnBoard start calls v → OnBoard start (Puts row content version ∷ calls) w
+put_done start calls v w row version k content found some low is next last hand stk r = let more : List Call = Puts row content version ∷ calls in
+    reach start calls more v w row (sighted Idle (4 * (k + 1) + 2)) low (ap (λ (z : View). z.rows) is) (ap (λ (z : View). z.number) is) (ap (λ (z : View). z.base) is) stk r
+    (tied_as start more (change_of v row (k + 1) true no_label found content ∷ v.made) w.made (ap (λ (z : View). z.made) is)
+    (some, record { by_is = r.number_is; base_is = r.base_is; action_is = r.action; after_is = r.after; row_is = refl; version_is = sym next; puts_is = refl }, (refl, last), (k, hand, next), r.tied))
+    (shown_as start more v.reads w.reads v.sights w.sights v.entered w.entered (ap (λ (z : View). z.reads) is) (ap (λ (z : View). z.sights) is) (ap (λ (z : View). z.entered) is) (tt, r.shown))
+    (λ h. absurd (no_true false refl h)) (λ q n. refl) (λ z. sym (here_if row None (hand_in calls row))) (λ q n. away_if row q None (hand_in calls q) n) (λ q n. away_if row q version (top_in calls q) n)
+    (omega (arith, here_if row version (top_in calls row), next)) (ap (λ (z : View). z.action) is ∙ r.action) (ap (λ (z : View). z.after) is ∙ r.after) (ap (λ (z : View). z.label) is ∙ r.label) (λ h. ap (λ (z : View). z.labels) is ∙ r.labels h)
+
+-- it was released as free
+pub free_done : (start : Start) (calls : List Call) (v w : View) (row k : ℕ) (found : List ℕ) → 0 < row → row < length v.rows → w ≡ freed_at (weighed v) row k found → found ≡ last_found calls row → hand_in calls row ≡ Some k → stake w ≡ stake v → OnBoard start calls v
+    → OnBoard start (Frees row k ∷ calls) w
+free_done start calls v w row k found some low is last hand stk r = let more : List Call = Frees row k ∷ calls in
+    reach start calls more v w row (sighted Idle (4 * k)) low (ap (λ (z : View). z.rows) is) (ap (λ (z : View). z.number) is) (ap (λ (z : View). z.base) is) stk r
+    (tied_as start more (change_of v row k false no_label found found ∷ v.made) w.made (ap (λ (z : View). z.made) is)
+    (some, record { by_is = r.number_is; base_is = r.base_is; action_is = r.action; after_is = r.after; row_is = refl; version_is = refl; puts_is = refl }, last, hand, r.tied))
+    (shown_as start more v.reads w.reads v.sights w.sights v.entered w.entered (ap (λ (z : View). z.reads) is) (ap (λ (z : View). z.sights) is) (ap (λ (z : View). z.entered) is) (tt, r.shown))
+    (λ h. absurd (no_true false refl h)) (λ q n. refl) (λ z. sym (here_if row None (hand_in calls row))) (λ q n. away_if row q None (hand_in calls q) n) (λ q n. away_if row q k (top_in calls q) n)
+    (omega (arith, here_if row k (top_in calls row))) (ap (λ (z : View). z.action) is ∙ r.action) (ap (λ (z : View). z.after) is ∙ r.after) (ap (λ (z : View). z.label) is ∙ r.label) (λ h. ap (λ (z : View). z.labels) is ∙ r.labels h)
+
+-- an action ended
+pub left_done : (start : Start) (calls : List Call) (v w : View) (found : List ℕ) → 0 < length v.rows → 0 < v.action → w ≡ ended_with (weighed v) found → stake w ≡ stake v → OnBoard start calls v → OnBoard start (Leaves ∷ calls) w
+left_done start calls v w found low acting is stk r = let more : List Call = Leaves ∷ calls in
+    reach start calls more v w 0 (sighted Idle (4 * v.action + 2)) low (ap (λ (z : View). z.rows) is) (ap (λ (z : View). z.number) is) (ap (λ (z : View). z.base) is) stk r
+    (tied_as start more (change_of v 0 v.action true v.label found found ∷ v.made) w.made (ap (λ (z : View). z.made) is)
+    (omega (arith, acting, r.action), record { by_is = r.number_is; base_is = r.base_is; action_is = r.action; after_is = r.after; row_is = refl; version_is = r.action; puts_is = refl }, r.label, r.tied))
+    (shown_as start more v.reads w.reads v.sights w.sights v.entered w.entered (ap (λ (z : View). z.reads) is) (ap (λ (z : View). z.sights) is) (ap (λ (z : View). z.entered) is) (tt, r.shown))
+    (λ h. absurd (no_true false refl h)) (λ q n. refl) (λ z. absurd (omega (arith, z))) (λ q n. away_if 0 q None (hand_in calls q) n) (λ q n. away_if 0 q (action_in calls) (top_in calls q) n)
+    (omega (arith, r.action)) (ap (λ (z : View). z.action) is) (ap (λ (z : View). z.after) is ∙ r.action) (ap (λ (z : View). z.label) is) (λ h. absurd (omega (arith, h)))
 
 -- of a row in hand
 pub held_is : (s : Stage) → IsSome (in_hand s) → is_holding s ≡ true

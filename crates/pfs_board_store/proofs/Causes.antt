@@ -2,10 +2,9 @@
 use Rattle.std.proofs.Common.{ℕ, ◌≡◌, ◌≢◌, ◌⊎◌, ◌+◌, ◌/◌, ◌%◌, ◌==◌, ◌<◌, ◌≤◌, nat_lt, nat_le, ◌&&◌, not, Bool, true, false, List, [], ◌∷◌, slice_index, refl, ap, sym, ◌∙◌, subst, inl, inr, ⊎_elim, arith, eq-eqb}
 use Rattle.std.proofs.lemmas.Bool.{cases_eq, eqb-true, and_parts, cases_Bool, leb-true, ltb-false, ltb-true}
 use Rattle.pfs_board.specs.declared.view.Change.{Change}
-use Rattle.pfs_board.specs.declared.view.Finished.{Finished}
 use Rattle.pfs_board.specs.declared.view.Sight.{Sight}
 use Rattle.pfs_board.specs.declared.view.View.{View}
-use Rattle.pfs_board.specs.History.{Each, Some_of, IsChain, IsFreedAt, version, version_of, step_of, level, lock_at}
+use Rattle.pfs_board.specs.History.{Each, Some_of, IsChain, IsFreedAt, version, version_of, step_of, lock_at}
 use Rattle.pfs_board.specs.Knowledge.{corner, is_holding}
 use Rattle.pfs_board.specs.Rule.{IsRead, IsSight, lock}
 use Rattle.pfs_board.specs.Rule as rule
@@ -13,16 +12,15 @@ use Rattle.pfs_board.specs.WholeSeats.{History}
 use Rattle.pfs_board.proofs.HistoryFacts.{each_map, each_both, below_all, step_put, step_release}
 use Rattle.pfs_levels.specs.declared.answers.Added.TheVariants.{Counted, Held}
 use Rattle.pfs_levels.specs.declared.answers.RingPut.TheVariants.{Done, Busy, Late}
-use Rattle.pfs_levels.specs.Calls.{Call, Adds, Rings, Reads, Loads, Draws, Takes, Puts, Frees, Sets, Enters, Leaves, Meets, Start, action_in, after_in}
+use Rattle.pfs_levels.specs.Calls.{Call, Adds, Rings, Reads, Loads, Draws, Takes, Puts, Frees, Sets, Enters, Leaves, Meets, Start}
 use Rattle.pfs_levels.specs.JointCalls.{total, one_if}
 use Rattle.pfs_levels.specs.CallOrder.{Mark, is_between, published, released, IsOthers, IsCaused, AreCaused}
 use Rattle.pfs_rows.specs.declared.table.Seen.TheVariants.{Whole, Free}
 use Rattle.pfs_rows.specs.declared.table.Seen.TheVariants as sees
 use Rattle.pfs_board_store.specs.RootActors.{marks_in}
 use Rattle.pfs_board_store.specs.RootLaws.{content_of, IsRunsBoard}
-use Rattle.pfs_board_store.specs.Ties.{IsTied, IsSighted, IsFinished, WasRefused, AreAnothers, AreShown}
-use Rattle.pfs_board_store.proofs.CallContents.{read_is}
-use Rattle.pfs_board_store.proofs.Floors.{mark_of, none_marked, some_marked, Past, past_map, above_none, level_up, read_floor}
+use Rattle.pfs_board_store.specs.Ties.{IsTied, IsSighted, WasRefused, AreAnothers, AreShown}
+use Rattle.pfs_board_store.proofs.Floors.{mark_of, none_marked, some_marked, Past, above_none}
 use Rattle.pfs_board_store.proofs.ChangeOrder.{mark_counts}
 use Rattle.pfs_board_store.proofs.ActionLabels.{some_each}
 

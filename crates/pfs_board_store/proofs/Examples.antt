@@ -21,6 +21,7 @@ use Rattle.pfs_levels.specs.RowWords.{zero_words}
 use Rattle.pfs_levels.specs.JointCalls.{total, opens_free, Draw, sets_of, word_version, all_calls, Joint}
 use Rattle.pfs_levels.specs.CallOrder.{Mark, mark, marks_of, all_marks, word_marks_of, all_word_marks, above, top_word, AllCalls, Order}
 use Rattle.pfs_rows.specs.declared.table.Seen.TheVariants.{Whole}
+use Rattle.pfs_board_store.specs.Looks.{AreLooked}
 use Rattle.pfs_board_store.specs.RootActors.{Worked, AreGathered, IsDone, ats_of, marks_in}
 use Rattle.pfs_board_store.specs.RootLaws.{content_of, settings_in, IsFirstRow, IsRunsBoard, AreWritten, AllKnowSets}
 use Rattle.pfs_board_store.proofs.ActionCalls.{held_none}
@@ -279,6 +280,16 @@ module _ (rows : List FirstRow) (many : length rows ≡ 14242) (each : (row : �
   done_freeing : IsDone (record { start = begun 2 0; calls = freeing })
   done_freeing = record { outside = refl; empty = λ row some. hands row; rising = (omega arith, (omega arith, (omega arith, tt))); there = (omega arith, (omega arith, (omega arith, tt))) }
 
+  -- the reader looked once at its row, and the other actor took its own at the first try
+  looked_reading : AreLooked (begun 1 1).board reading (finished ∷ []) []
+  unfolding AreLooked
+  looked_reading =
+      ([], finished ∷ [], refl, [], [], refl, (refl, refl), (finished ∷ [], [], refl, [], [], refl, ((finished, refl, record { by_is = refl; base_is = refl; row_is = refl; version_is = refl; action_is = refl; after_is = refl }, refl), refl), (refl, refl)))
+
+  looked_freeing : AreLooked (begun 2 0).board freeing [] []
+  unfolding AreLooked
+  looked_freeing = ([], [], refl, [], [], refl, (refl, refl), ([], [], refl, [], [], refl, (refl, tt), ([], [], refl, [], [], refl, (refl, refl), (refl, refl))))
+
   gathered : AreGathered both board_view word_view ticket_view
   gathered = record {
     tied = (
@@ -310,6 +321,7 @@ module _ (rows : List FirstRow) (many : length rows ≡ 14242) (each : (row : �
       ),
       ((tt, (tt, (tt, tt))), tt),
     );
+    looked = (finished ∷ [], [], refl, [], [], refl, looked_reading, ([], [], refl, [], [], refl, looked_freeing, (refl, refl)));
     loaded = (load ∷ [], [], refl, (record { by_is = refl; first_is = refl; word_is = refl; version_is = refl; flags_is = refl }, refl), ([], [], refl, refl, refl));
     met = ([], [], refl, refl, ([], [], refl, refl, refl));
     drawn = ([], ticket ∷ [], refl, refl, (ticket ∷ [], [], refl, (refl, refl, refl, refl), refl));

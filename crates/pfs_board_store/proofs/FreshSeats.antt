@@ -17,7 +17,7 @@ idle_given : (v : View) (a r : ℕ) → (corner (given v a) r).stage ≡ Idle
 idle_given v a r = ap (λ (c : Corner). c.stage) (math.get_or-map idle_one v.rows r newcomer)
 
 pub fresh_given : (v : View) (a : ℕ) → IsFresh (given v a)
-fresh_given v a = record { action = refl; after = refl; label = refl; lent = refl; idle = idle_given v a; made = refl }
+fresh_given v a = record { action = refl; after = refl; label = refl; lent = refl; idle = idle_given v a; made = refl; reads = refl; sights = refl }
 
 pub length_given : (v : View) (a : ℕ) → length (given v a).rows ≡ length v.rows
 length_given v a = length-map v.rows idle_one

@@ -1,6 +1,7 @@
 mod KeptCalls
 pub mod ViewCorners
 mod CallTies
+mod CallLooks
 mod WordTies
 mod ActionCalls
 mod Waits

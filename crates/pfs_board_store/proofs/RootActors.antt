@@ -3,8 +3,11 @@ use Rattle.std.proofs.Common.{List, [], ◌∷◌, ◌++◌, sym, arith, refl, i
 use Rattle.pfs_board.specs.declared.view.Entered.{Entered}
 use Rattle.pfs_board.specs.declared.view.Finished.{Finished}
 use Rattle.pfs_board.specs.declared.view.Sight.{Sight}
+use Rattle.pfs_board_store.specs.Looks.{AreLooked}
 use Rattle.pfs_board_store.specs.RootActors.{Worked, AllShown, GatherLaw}
 use Rattle.pfs_board_store.specs.RootLaws.{MeetLaw}
+use Rattle.pfs_levels.specs.Calls.{Meets, Opening}
+use Rattle.pfs_switches.specs.declared.view.View.{View as WordView}
 use Rattle.pfs_switches.specs.Knowledge.{meet_of}
 use Rattle.pfs_board_store.proofs.KeptCalls.{Within, shown_more}
 
@@ -32,16 +35,23 @@ gathers actors v w t g start calls b words tickets m =
         shown_more start.board u.reads (u.reads ++ v.reads) u.sights (u.sights ++ v.sights) u.entered (u.entered ++ v.entered) (within_left u.reads v.reads) (within_left u.sights v.sights) (within_left u.entered v.entered) calls r.board.shown,
         all_shown_more actors v.reads (u.reads ++ v.reads) v.sights (u.sights ++ v.sights) v.entered (u.entered ++ v.entered) (within_right u.reads v.reads) (within_right u.sights v.sights) (within_right u.entered v.entered) g.shown,
       );
+      looked = (u.reads, v.reads, refl, u.sights, v.sights, refl, m.looked, g.looked);
       loaded = (words.view.loads, w.loads, refl, r.words.3, g.loaded);
       met = (words.view.meets, w.meets, refl, r.words.5, g.met);
       drawn = (tickets.view.tickets, t.tickets, refl, r.tickets.2, g.drawn);
       done = (record { outside = m.outside; empty = m.empty; rising = r.rising; there = r.there }, g.done);
     }
 
+-- such a meet looks at no row
+met_looks : (start : Opening) (pen : WordView) → AreLooked start.board (Meets pen.seen ∷ []) [] []
+unfolding AreLooked
+met_looks start pen = ([], [], refl, [], [], refl, (refl, refl), (refl, refl))
+
 pub meets : MeetLaw
 meets actors v w pen t g start same = record {
   tied = ([], v.made, refl, refl, g.tied);
   shown = ((tt, tt), g.shown);
+  looked = ([], v.reads, refl, [], v.sights, refl, met_looks start pen, g.looked);
   loaded = ([], w.loads, refl, refl, g.loaded);
   met = (meet_of w pen ∷ [], w.meets, refl, (sym same, refl, refl), g.met);
   drawn = ([], t.tickets, refl, refl, g.drawn);

@@ -1,5 +1,5 @@
 -- Lists of sets that have one number are one list.
-use Rattle.std.proofs.Common.{ℕ, zero, suc, ◌≡◌, ◌<◌, ◌+◌, ◌*◌, List, [], ◌∷◌, refl, ap, sym, ◌∙◌, arith}
+use Rattle.std.proofs.Common.{ℕ, zero, suc, ◌≡◌, ◌<◌, List, [], ◌∷◌, refl, ap, arith}
 use Rattle.pfs_switches.specs.declared.view.Setting.{Setting}
 use Rattle.pfs_board_store.specs.WriterWords.{both, number_of}
 

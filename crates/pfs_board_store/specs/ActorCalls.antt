@@ -11,6 +11,7 @@ use Rattle.pfs_tickets.specs.SeatViews.{Known as TicketsKnown}
 use Rattle.pfs_board.specs.Knowledge.{corner, is_holding, found_in, stake, no_label}
 use Rattle.pfs_levels.specs.Calls.{Call, Enters, Leaves, Adds, Rings, Reads, Loads, Draws, Takes, Puts, Frees, Sets, Meets, Start, Opening, action_in, after_in, label_in, hand_in}
 use Rattle.pfs_levels.specs.CallOrder.{top_in, top_word, AreRising, AreThere}
+use Rattle.pfs_board_store.specs.Looks.{AreLooked}
 use Rattle.pfs_board_store.specs.Ties.{IsTied, AreLoaded, AreMet, AreDrawn, AreShown, last_found}
 use Rattle.pfs_switches.specs.declared.view.View.{View as WordView}
 use Rattle.pfs_switches.specs.OpeningWords.{opening_words}
@@ -79,7 +80,7 @@ pub record IsReached (start : Opening) (calls : List Call) (v : View) (w : WordV
 abbrev pub IsIn : View → Type 0
 IsIn v = v.action ≡ 0 → v.lent ≡ false
 
--- a seat that has made nothing yet, and is in no action
+-- a seat that has made and read nothing yet, and is in no action
 pub record IsFresh (v : View) : Type 0 where
   pub action : v.action ≡ 0
   pub after : v.after ≡ 0
@@ -87,6 +88,8 @@ pub record IsFresh (v : View) : Type 0 where
   pub lent : v.lent ≡ false
   pub idle : (r : ℕ) → (corner v r).stage ≡ Idle
   pub made : v.made ≡ []
+  pub reads : v.reads ≡ []
+  pub sights : v.sights ≡ []
 
 -- where an actor with these seats begins
 abbrev pub opening_of : TableId → TableId → TableId → List ℕ → View → WordView → TicketView → Opening
@@ -105,5 +108,6 @@ pub record HasMade (start : Opening) (calls : List Call) (b : BoardKnown) (w : W
     pub switches : w.switches ≡ start.switches.table
     pub tickets : t.tickets ≡ start.tickets.table
     pub made : IsReached start calls b.view w.view t.view
+    pub looked : AreLooked start.board calls b.view.reads b.view.sights
     pub outside : action_in calls ≡ 0
     pub empty : (row : ℕ) → 0 < row → hand_in calls row ≡ None

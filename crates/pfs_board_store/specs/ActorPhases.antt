@@ -7,7 +7,7 @@ use Rattle.pfs_levels.specs.JointCalls.{Setting, sets_of, word_version, all_call
 use Rattle.pfs_levels.specs.CallOrder.{all_marks}
 use Rattle.pfs_levels.specs.PhaseFloors.{AllSince}
 use Rattle.pfs_board_store.specs.RootActors.{Worked, calls_of_all, AreGathered}
-use Rattle.pfs_board_store.specs.RootLaws.{content_of, IsRunsBoard}
+use Rattle.pfs_board_store.specs.RootLaws.{IsRunsBoard}
 use Rattle.pfs_switches.specs.declared.view.View.{View as WordView}
 use Rattle.pfs_switches.specs.SharedKnowledge.{IsTold}
 use Rattle.pfs_switches.specs.Knowledge.{met}

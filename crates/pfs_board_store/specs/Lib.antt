@@ -1,4 +1,5 @@
 pub mod Ties
+pub mod Looks
 pub mod ActorCalls
 pub mod WriterWords
 pub mod RootActors

@@ -13,6 +13,7 @@ use Rattle.pfs_levels.specs.Calls.{Call, Opening, action_in, hand_in}
 use Rattle.pfs_levels.specs.JointCalls.{total, At, changes_of, IsCounted, all_calls}
 use Rattle.pfs_levels.specs.CallOrder.{Mark, mark, all_marks, marked, AreMarked, AreOrdered, AreRising, AreThere, AreNamed, AllCalls}
 use Rattle.pfs_board_store.specs.ActorCalls.{HasMade}
+use Rattle.pfs_board_store.specs.Looks.{AreLooked}
 use Rattle.pfs_board_store.specs.Ties.{IsTied, AreLoaded, AreMet, AreDrawn, AreShown}
 use Rattle.pfs_switches.specs.declared.view.Loaded.{Loaded}
 use Rattle.pfs_switches.specs.declared.view.Met.{Met}
@@ -45,6 +46,13 @@ AllShown reads sights entered [] = Unit {0}
 AllShown reads sights entered (a ∷ actors) = AreShown a.start.board reads sights entered a.calls
     × AllShown reads sights entered actors
 
+-- the root's looks at rows are the actors' one after another, the newest actor first
+abbrev pub AllLooked : List Worked → List Finished → List Sight → Type 0
+AllLooked [] reads sights = (reads ≡ []) × (sights ≡ [])
+AllLooked (a ∷ actors) reads sights = (mine : List Finished) × (rest : List Finished) × (reads ≡ mine ++ rest)
+    × (seen : List Sight) × (others : List Sight) × (sights ≡ seen ++ others)
+    × AreLooked a.start.board a.calls mine seen × AllLooked actors rest others
+
 -- an actor that holds nothing and is in no action
 pub record IsDone (a : Worked) : Type 0 where
   pub outside : action_in a.calls ≡ 0
@@ -60,6 +68,7 @@ AllDone (a ∷ actors) = IsDone a × AllDone actors
 pub record AreGathered (actors : List Worked) (v : View) (w : WordView) (t : TicketView) : Type 0 where
   pub tied : AreParts (λ (a : Worked) (made : List Change). IsTied a.start.board a.calls made) actors v.made
   pub shown : AllShown v.reads v.sights v.entered actors
+  pub looked : AllLooked actors v.reads v.sights
   pub loaded : AreParts (λ (a : Worked) (loads : List Loaded). AreLoaded a.start a.calls loads) actors w.loads
   pub met : AreParts (λ (a : Worked) (meets : List Met). AreMet a.start.switches a.calls meets) actors w.meets
   pub drawn : AreParts (λ (a : Worked) (tickets : List Drawn). AreDrawn a.start.tickets a.calls tickets) actors

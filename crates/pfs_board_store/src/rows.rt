@@ -6,7 +6,7 @@ ghost use Rattle.pfs_board.specs.declared.view.Label.{Label};
 ghost use Rattle.pfs_levels.specs.Calls.{Call, Opening, Goes, Adds, Rings, Reads, Loads, Draws, Enters, Leaves, row_in, IsLate, IsCell, IsRing, IsRow, action_in, after_in, label_in};
 ghost use Rattle.pfs_levels.specs.Views.{Kept as StoreKept, Same, empty_handed};
 ghost use Rattle.pfs_switches.specs.OpeningWords.{opening_words};
-ghost use Rattle.pfs_board_store.specs.Ties.{WasOlder};
+ghost use Rattle.pfs_board_store.specs.Looks.{AreLooked, HasReadOn};
 ghost use Rattle.pfs_board_store.specs.ActorCalls.{IsReached, HasMade, IsFresh, IsIn, in_hand, opening_of, labels_in};
 
 use pfs_board::{Board, BoardSeat, Content, Kept, Label, Seen as Shown, Taken};
@@ -172,11 +172,11 @@ impl<'a, V: Kept> BoardRows<'a, V> {
         requires room { 0 < (⟦<BoardRows<'a, V> as Rows>⟧.seen self.old).left }
         requires word { (word % 4 ≢ 1) × ((corner self.old.seat.view row).fresh ≡ true)
             × ((corner self.old.seat.view row).last ≡ Some word) }
-        requires older { (start : Opening) → (calls : List Call) → (⟦<BoardRows<'a, V> as Rows>⟧.seen self.old).reached
-            start calls → WasOlder start.board self.old.seat.view.reads self.old.seat.view.sights row (word / 4)
-            content.now (action_in calls) (after_in calls) }
-        ensures call { Goes (⟦<BoardRows<'a, V> as Rows>⟧.seen self.old).reached
-            (⟦<BoardRows<'a, V> as Rows>⟧.seen self.new).reached (Rings row content.now result ∷ []) }
+        ensures call { (start : Opening) → (calls : List Call) → self.old.board.now.id ≡ start.board.table
+            → self.old.switches.now.id ≡ start.switches.table → self.old.tickets.now ≡ start.tickets.table
+            → IsReached start calls self.old.seat.view self.old.words.view self.old.draws.view
+            → HasReadOn start.board calls row content.now word self.old.seat.view.reads self.old.seat.view.sights
+            → (⟦<BoardRows<'a, V> as Rows>⟧.seen self.new).reached start (Rings row content.now result ∷ calls) }
         ensures kept { StoreKept 1 0 (⟦<BoardRows<'a, V> as Rows>⟧.seen self.old)
             (⟦<BoardRows<'a, V> as Rows>⟧.seen self.new) }
         ensures late { IsLate row content.now result }
@@ -198,7 +198,8 @@ impl<'a, V: Kept> Rows for BoardRows<'a, V> {
     ghost seen = { λ s. record {
       reached = λ start calls. (s.board.now.id ≡ start.board.table)
           × (s.switches.now.id ≡ start.switches.table) × (s.tickets.now ≡ start.tickets.table)
-          × IsReached start calls s.seat.view s.words.view s.draws.view;
+          × IsReached start calls s.seat.view s.words.view s.draws.view
+          × AreLooked start.board calls s.seat.view.reads s.seat.view.sights;
       hand = λ row. in_hand (corner s.seat.view row).stage;
       left = s.seat.view.allowance - held s.seat.view.rows;
       draws = s.draws.view.draws;

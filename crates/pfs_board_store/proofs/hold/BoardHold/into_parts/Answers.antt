@@ -1,4 +1,3 @@
-use Rattle.std.proofs.Common.{List}
 use Rattle.pfs_board_store.proofs.LentHolds.{had_set}
 use Rattle.pfs_board_store.proofs.hold.BoardHold.into_parts.Goals as goal
 

@@ -1,5 +1,8 @@
-use Rattle.std.proofs.Common.{arith}
+use Rattle.std.proofs.Common.{ap, arith, refl}
+use Rattle.pfs_board.specs.declared.view.View.{View}
+use Rattle.pfs_levels.specs.Calls.{Enters}
 use Rattle.pfs_board_store.proofs.ActionCalls.{entered}
+use Rattle.pfs_board_store.proofs.CallLooks.{looked_on}
 use Rattle.pfs_board_store.proofs.rows.BoardRows.enter.Goals as goal
 
 pub returns-clause-call : goal.returns-clause-call
@@ -24,6 +27,7 @@ returns-clause-call g c = λ start calls r.
             rising = (omega (arith, r.3.board.seen 0, later), r.3.rising);
             there = (tt, r.3.there);
           },
+          looked_on start.board calls (Enters c.args.label w.labels) v w (ap (λ (z : View). z.reads) e.begun.view_is) (ap (λ (z : View). z.sights) e.begun.view_is) (refl, refl) r.4,
         ),
       ),
     )

@@ -15,6 +15,7 @@ returns-clause-made g c = λ start calls r.
       switches = s.same_words ∙ r.1;
       tickets = s.same_tickets ∙ r.2;
       made = r.3;
+      looked = r.4;
       outside = sym r.3.board.action ∙ out;
       empty = λ row some. sym (r.3.board.hand row some) ∙ c.requires.idle row;
     }

@@ -1,6 +1,7 @@
 use Rattle.std.proofs.Common.{ap, arith, refl}
 use Rattle.pfs_levels.specs.Calls.{Meets}
 use Rattle.pfs_switches.specs.SeatViews.{Known}
+use Rattle.pfs_board_store.proofs.CallLooks.{looked_on}
 use Rattle.pfs_board_store.proofs.CallTies.{apart}
 use Rattle.pfs_board_store.proofs.WordTies.{met_on, met_least}
 use Rattle.pfs_board_store.proofs.rows.BoardRows.met.Goals as goal
@@ -23,4 +24,5 @@ returns-clause-call g c = λ start calls r.
         rising = ((λ at up. omega (arith, r.3.words.4 at, least at)), r.3.rising);
         there = (tt, r.3.there);
       },
+      looked_on start.board calls (Meets pen.seen) v v refl refl (refl, refl) r.4,
     )

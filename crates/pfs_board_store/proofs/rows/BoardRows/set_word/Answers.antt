@@ -4,6 +4,7 @@ use Rattle.pfs_switches.specs.SeatViews.{Known}
 use Rattle.pfs_switches.specs.Knowledge.{loaded, met, was_set}
 use Rattle.pfs_switches.specs.declared.view.View.{View}
 use Rattle.pfs_board_store.proofs.ActionCalls.{inside_is}
+use Rattle.pfs_board_store.proofs.CallLooks.{looked_on}
 use Rattle.pfs_board_store.proofs.CallTies.{apart}
 use Rattle.pfs_board_store.proofs.WordTies.{set_on, met_least}
 use Rattle.pfs_board_store.proofs.rows.BoardRows.set_word.Goals as goal
@@ -39,4 +40,5 @@ returns-clause-call g c = λ start calls r.
         rising = (omega (arith, r.3.words.4 word, least word, next), r.3.rising);
         there = (c.requires.known, r.3.there);
       },
+      looked_on start.board calls (Sets word flags version) v v refl refl (refl, refl) r.4,
     )

@@ -4,10 +4,11 @@ use Rattle.pfs_board.specs.declared.view.Stage.TheVariants.{Holding}
 use Rattle.pfs_board.specs.Knowledge.{corner, sighted, sight_of, version_held, found_in}
 use Rattle.pfs_levels.specs.Calls.{Adds}
 use Rattle.pfs_levels.specs.CallOrder.{top_in}
-use Rattle.pfs_levels.specs.declared.answers.Added.TheVariants.{Held}
+use Rattle.pfs_levels.specs.declared.answers.Added.TheVariants.{Counted, Held}
 use Rattle.pfs_stat.specs.Stat.{stat_of_words, merge_of, words_of}
 use Rattle.pfs_board_store.proofs.ViewCorners.{away_if, here_if, still_in}
 use Rattle.pfs_board_store.proofs.CallTies.{glanced, taken, add_done, sighted_now, sight_more}
+use Rattle.pfs_board_store.proofs.CallLooks.{looked_more, looked_on, saw_now}
 use Rattle.pfs_board_store.proofs.rows.BoardRowsRows.add_try.Goals as goal
 
 pub returns-in-Busy-clause-call : goal.returns-in-Busy-clause-call
@@ -34,6 +35,7 @@ returns-in-Busy-clause-call g c = λ start calls r.
         rising = ((omega (arith, b.seen row, a.6), a.2), r.3.rising);
         there = (omega (arith, cell), r.3.there);
       },
+      looked_more start.board calls (Adds row c.args.amount.now (Held row first second)) [] (sight_of v row first second ∷ []) v w (ap (λ (z : View). z.reads) a.5) (ap (λ (z : View). z.sights) a.5) (refl, saw_now start.board calls v row first second b) r.4,
     )
 
 pub returns-in-Mine-clause-call : goal.returns-in-Mine-clause-call
@@ -64,4 +66,5 @@ returns-in-Mine-clause-call g c = λ start calls r.
         rising = (omega (arith, r.3.board.seen row, a.2, next), r.3.rising);
         there = (omega (arith, cell), r.3.there);
       },
+      looked_on start.board calls (Adds row c.args.amount.now (Counted row c.put-version.result)) v c.put-version.new.seat.view (ap (λ (z : View). z.reads) c.put-version.ensures.view ∙ ap (λ (z : View). z.reads) a.4) (ap (λ (z : View). z.sights) c.put-version.ensures.view ∙ ap (λ (z : View). z.sights) a.4) (refl, refl) r.4,
     )

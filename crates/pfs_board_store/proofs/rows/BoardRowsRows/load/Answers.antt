@@ -1,5 +1,6 @@
 use Rattle.std.proofs.Common.{refl, arith}
 use Rattle.pfs_levels.specs.Calls.{Loads}
+use Rattle.pfs_board_store.proofs.CallLooks.{looked_on}
 use Rattle.pfs_board_store.proofs.CallTies.{apart}
 use Rattle.pfs_board_store.proofs.WordTies.{loaded_on}
 use Rattle.pfs_board_store.proofs.rows.BoardRowsRows.load.Goals as goal
@@ -22,4 +23,5 @@ returns-clause-call g c = λ start calls r.
         rising = (omega (arith, r.3.words.4 word, c.load.ensures.later), r.3.rising);
         there = (low, r.3.there);
       },
+      looked_on start.board calls (Loads word c.load.result.0 c.load.result.1) v v refl refl (refl, refl) r.4,
     )

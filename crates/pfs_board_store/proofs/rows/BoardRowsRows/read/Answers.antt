@@ -1,10 +1,12 @@
-use Rattle.std.proofs.Common.{◌∷◌, ◌+◌, ◌*◌, ◌/◌, arith, inl, refl}
+use Rattle.std.proofs.Common.{◌≡◌, ◌∷◌, [], ap, ◌+◌, ◌*◌, ◌/◌, arith, inl, refl}
+use Rattle.pfs_board.specs.declared.view.View.{View}
 use Rattle.pfs_board.specs.Knowledge.{sight_of, read_of}
 use Rattle.pfs_levels.specs.Calls.{Reads}
 use Rattle.pfs_levels.specs.CallOrder.{top_in}
 use Rattle.pfs_rows.specs.declared.table.Seen.TheVariants as sees
 use Rattle.pfs_board_store.proofs.ViewCorners.{away_if, here_if}
 use Rattle.pfs_board_store.proofs.CallTies.{another_seen, glanced, sighted_now, finished_now, sight_more, read_more}
+use Rattle.pfs_board_store.proofs.CallLooks.{looked_more, read_now, saw_now}
 use Rattle.pfs_board_store.proofs.rows.BoardRowsRows.read.Goals as goal
 
 pub returns-in-Whole-clause-call : goal.returns-in-Whole-clause-call
@@ -30,6 +32,7 @@ returns-in-Whole-clause-call g c = λ start calls r.
         rising = (omega (arith, b.seen row, a.0), r.3.rising);
         there = (known.1, r.3.there);
       },
+      looked_more start.board calls (Reads row (sees.Whole k content)) (read_of v row k content ∷ []) [] v c.read.new.seat.view (ap (λ (z : View). z.reads) a.2) (ap (λ (z : View). z.sights) a.2) (read_now start.board calls v row k content (λ z. z ≡ content) b refl, refl) r.4,
     )
 
 pub returns-in-Free-clause-call : goal.returns-in-Free-clause-call
@@ -54,6 +57,7 @@ returns-in-Free-clause-call g c = λ start calls r.
         rising = (omega (arith, b.seen row, a.1), r.3.rising);
         there = (known.1, r.3.there);
       },
+      looked_more start.board calls (Reads row (sees.Free word)) [] (sight_of v row word word ∷ []) v c.read.new.seat.view (ap (λ (z : View). z.reads) a.2) (ap (λ (z : View). z.sights) a.2) (refl, saw_now start.board calls v row word word b) r.4,
     )
 
 pub returns-in-Busy-clause-call : goal.returns-in-Busy-clause-call
@@ -79,4 +83,5 @@ returns-in-Busy-clause-call g c = λ start calls r.
         rising = ((omega (arith, b.seen row, a.1), a.2), r.3.rising);
         there = (known.1, r.3.there);
       },
+      looked_more start.board calls (Reads row (sees.Busy first second)) [] (sight_of v row first second ∷ []) v c.read.new.seat.view (ap (λ (z : View). z.reads) a.5) (ap (λ (z : View). z.sights) a.5) (refl, saw_now start.board calls v row first second b) r.4,
     )

@@ -1,5 +1,6 @@
 use Rattle.std.proofs.Common.{refl}
 use Rattle.pfs_levels.specs.Calls.{Draws}
+use Rattle.pfs_board_store.proofs.CallLooks.{looked_on}
 use Rattle.pfs_board_store.proofs.CallTies.{apart}
 use Rattle.pfs_board_store.proofs.WordTies.{drawn_on, ticket_rises}
 use Rattle.pfs_board_store.proofs.rows.BoardRowsRows.ticket.Goals as goal
@@ -20,4 +21,5 @@ returns-clause-call g c = λ start calls r.
         rising = (ticket_rises start.tickets calls t.tickets c.args.kind c.draw.result c.draw.ensures.above r.3.tickets.2, r.3.rising);
         there = (c.requires.known, r.3.there);
       },
+      looked_on start.board calls call v v refl refl (refl, refl) r.4,
     )
