@@ -1,1 +1,2 @@
 mod SessionActions
+mod SeatedSteps

@@ -1,1 +1,2 @@
 pub mod SessionActions
+pub mod SeatedViews

@@ -3,9 +3,11 @@
 
 mod actions;
 mod desks;
+mod seated;
 mod showing;
 
 pub use actions::{act, connect, pause, quit, truncate};
+pub use seated::Seated;
 pub use showing::show_held;
 
 /// Memory ran out.

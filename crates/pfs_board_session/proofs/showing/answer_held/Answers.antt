@@ -1,4 +1,4 @@
-use Rattle.std.proofs.Common.{◌+◌, ◌∷◌, [], ◌∙◌, ap, arith, length, subst}
+use Rattle.std.proofs.Common.{◌∷◌, [], ap, arith, length, subst}
 use Rattle.pfs_admin.specs.declared.changes.SetupStatement.TheVariants.{Show}
 use Rattle.pfs_session.specs.Inquiries.{Remarks}
 use Rattle.pfs_session.specs.Turns.{Changes, Inquires, Played, SettlesHeld}
