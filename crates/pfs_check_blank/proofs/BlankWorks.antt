@@ -8,10 +8,11 @@ use Rattle.pfs_levels.specs.declared.answers.Word.{Word}
 use Rattle.pfs_levels.specs.Calls.{Call, Adds, Rings, Reads, Loads, Draws, Takes, Puts, Frees, Sets, Enters, Leaves, Meets, Opening, Start}
 use Rattle.pfs_levels.specs.Moves.{Ask, Move, Gift, AreMoves, IsMove, receivers, gift_calls, gift_entries, empty_calls, move_entries, moves_calls, moves_entries}
 use Rattle.pfs_stat.specs.Stat.{stat_of_words}
+use Rattle.pfs_model.specs.Chains.{Each}
 use Rattle.pfs_model.specs.ActionAsks.{Took, Gave, Freed, Tagged, Flagged, did, flagged_by, given_to, moved_by, signed_by}
-use Rattle.pfs_admin.specs.Works.{Sign, Releases, Tags, Made, Flagging, made_entries, signs_of, signs_calls, signs_entries, flagging_calls, flagging_entries}
+use Rattle.pfs_admin.specs.Works.{Sign, Releases, Tags, Made, Flagging, made_entries, sign_entry, signs_of, signs_calls, signs_entries, flagging_calls, flagging_entries}
 use Rattle.pfs_law_session.specs.Demands.{moves_asked, signs_asked, sets_asked}
-use Rattle.pfs_check_blank.specs.AllAsked.{AsksLaw, WholeLaw, every}
+use Rattle.pfs_check_blank.specs.AllAsked.{AsksLaw, TellsOne, WholeLaw, every}
 use Rattle.pfs_check_blank.specs.BlankStores.{AllFound}
 
 right : (xs ys : List Call) → AllFound (xs ++ ys) → AllFound ys
@@ -83,6 +84,25 @@ sets_did : (words : List Word) (flags : List Flagging) → flat_map did (flaggin
 sets_did words [] = refl
 sets_did words (f ∷ fs) = ap (λ z. Flagged f.word f.flags ∷ z) (sets_did words fs)
 
+tell_both : (xs ys : List Entry) → Each TellsOne xs → Each TellsOne ys → Each TellsOne (xs ++ ys)
+tell_both [] ys a b = b
+tell_both (x ∷ xs) ys a b = (a.0, tell_both xs ys a.1 b)
+
+gifts_tell : (from : ℕ) (gifts : List Gift) → Each TellsOne (gift_entries from gifts)
+gifts_tell from [] = tt
+gifts_tell from (g ∷ gs) = ((Gave g.to from, refl), gifts_tell from gs)
+
+moves_tell : (ms : List Move) → Each TellsOne (moves_entries ms)
+moves_tell [] = tt
+moves_tell (m ∷ ms) = tell_both (moves_entries ms) (move_entries m) (moves_tell ms) ((Took m.from, refl), gifts_tell m.from m.gifts)
+
+signs_tell : (made : List Made) → Each TellsOne (signs_entries made)
+signs_tell [] = tt
+signs_tell (m ∷ ms) = tell_both (signs_entries ms) (made_entries m) (signs_tell ms) (at m.sign refl, tt) where
+  at : (s : Sign) → m.sign ≡ s → TellsOne (sign_entry m.sign m.version)
+  at (Releases row) e = rw e (Freed row, refl)
+  at (Tags row content) e = rw e (Tagged row, refl)
+
 -- some place where a store begins
 nowhere : Start
 nowhere = record {
@@ -102,6 +122,7 @@ asks_law work words head old new w = record {
   are = record {
     changes = moves_entries w.moves ++ signs_entries w.made;
     entries_are = sym (append_assoc (moves_entries w.moves) (signs_entries w.made) (flagging_entries words work.flags));
+    tell = tell_both (moves_entries w.moves) (signs_entries w.made) (moves_tell w.moves) (signs_tell w.made);
     changes_are =
         did_join (moves_entries w.moves) (signs_entries w.made)
         ∙ ap (λ z. z ++ flat_map did (signs_entries w.made)) (moves_did work.moves w.moves w.are_moves found)

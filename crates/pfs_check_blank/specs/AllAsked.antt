@@ -1,10 +1,11 @@
 -- All that an action may be asked for, as entries.
-use Rattle.std.specs.Prelude.{ℕ, ◌≡◌, Bool, true, List, ◌++◌}
+use Rattle.std.specs.Prelude.{ℕ, ◌≡◌, Bool, true, List, [], ◌∷◌, ◌++◌}
 use Rattle.std.specs.List.{flat_map}
 use Rattle.pfs_event.specs.declared.entry.Entry.{Entry}
 use Rattle.pfs_event.specs.Logs.{Journal}
 use Rattle.pfs_levels.specs.declared.answers.Word.{Word}
-use Rattle.pfs_model.specs.ActionAsks.{asked_of, did, moved_by, signed_by}
+use Rattle.pfs_model.specs.ActionAsks.{Did, asked_of, did, moved_by, signed_by}
+use Rattle.pfs_model.specs.Chains.{Each}
 use Rattle.pfs_admin.specs.Works.{Work, Worked, flagging_entries}
 use Rattle.pfs_law_session.specs.Demands.{asked_by}
 use Rattle.pfs_check_blank.specs.BlankStores.{AllFound}
@@ -13,11 +14,16 @@ use Rattle.pfs_check_blank.specs.BlankStores.{AllFound}
 abbrev pub every : ℕ → Bool
 every row = true
 
+-- an entry that tells of one deed, so no other entry stands among those of an action
+abbrev pub TellsOne : Entry → Type 0
+TellsOne entry = (one : Did) × (did entry ≡ one ∷ [])
+
 -- These entries are all that a work may ask for of one who knows the words so: the changes of rows, each take with all
 -- its gives, and behind them the sets, each at its word's next version.
 pub record AreAsked (work : Work) (words : List Word) (entries : List Entry) : Type 0 where
   pub changes : List Entry
   pub entries_are : entries ≡ changes ++ flagging_entries words work.flags
+  pub tell : Each TellsOne changes
   pub changes_are : flat_map did changes ≡ moved_by every (asked_by work).moves ++ signed_by (asked_by work).signs
 
 -- a journal got them, behind these others
