@@ -145,8 +145,10 @@ pub trait Actor: Rows {
         ensures used { Used (length (owed_by_state session.state)) 0 (settle_cost (owed_by_state session.state))
             (Self.seen self.old) (Self.seen self.new) session.journal result.journal };
 
-    /// What stands before each line of a session: a plain store lets it pass, a gate may let it wait.
-    fn pass(&mut self, session: u64, line: u64)
+    /// What stands before each line of a session: a plain store lets it pass, a gate may let it wait. The line that
+    /// begins a block stands here too, a repeat's lines as often as they are played: whoever needs the number of a line
+    /// counts the calls of its session.
+    fn pass(&mut self, session: u64)
         ensures goes { Goes (Self.seen self.old).reached (Self.seen self.new).reached [] }
         ensures kept { Same (Self.seen self.old) (Self.seen self.new) };
 

@@ -157,8 +157,8 @@ impl<N: Named> Actor for PlainActor<N> {
         session.pause(&mut self.rows)
     }
 
-    fn pass(&mut self, session: u64, line: u64) {
-        let _ = (session, line);
+    fn pass(&mut self, session: u64) {
+        let _ = session;
     }
 
     ghost idle = { λ s row. refl };

@@ -1,5 +1,5 @@
 -- What was asked, one after another.
-use Rattle.std.proofs.Common.{◌≡◌, Bool, false, List, [], ◌∷◌, ◌++◌, map, None, refl, ap, sym, ◌∙◌, subst, append_assoc}
+use Rattle.std.proofs.Common.{◌≡◌, Bool, false, List, [], ◌∷◌, ◌++◌, map, Option, None, refl, ap, sym, ◌∙◌, subst, append_assoc}
 use Rattle.std.proofs.lemmas.List.{append-nil}
 use Rattle.pfs_actor.specs.ActorDeeds.{HasActed}
 use Rattle.pfs_admin.specs.AdministrationStates.{State as Administration}
@@ -9,11 +9,12 @@ use Rattle.pfs_play.proofs.FurtherDeeds.{nothing, then}
 use Rattle.pfs_play.proofs.RepeatedLines.{for_then}
 use Rattle.pfs_classes.specs.declared.setting.Setting.{Setting}
 use Rattle.pfs_law_plain.specs.LineDeeds.{bare}
-use Rattle.pfs_levels.specs.Calls.{Call, Opening}
+use Rattle.pfs_levels.specs.Calls.{Call, Goes, Opening}
 use Rattle.pfs_law_session.specs.Deeds.{Deed, Part, MayDo, is_over}
 use Rattle.pfs_law_session.specs.JournalLaws.{MayDoAll, over_behind, state_behind}
 use Rattle.pfs_play.proofs.NextLines.{answers_on}
-use Rattle.pfs_runs.specs.SelectAnswers.{Answer, selection_on}
+use Rattle.pfs_play.proofs.PassedLines.{done_passed}
+use Rattle.pfs_runs.specs.SelectAnswers.{Answer, Selection, selection_on}
 use Rattle.pfs_script.specs.declared.blocks.BlockLine.{BlockLine}
 use Rattle.pfs_session.specs.SessionStates.{State, Book}
 use Rattle.pfs_session.specs.Turns.{state_after}
@@ -29,6 +30,20 @@ met_nothing setting fixed change book answers was = record {
   given_are = sym (append-nil answers);
   answered = refl;
   done = nothing fixed change book was;
+}
+
+-- what is met behind what stands before a line is met from before it on
+pub met_passed : (setting fixed : Setting) (change : Label → Change) (selections : List (Option Selection)) (asks : List (Administration → Deed)) (over : Bool) (old new : Book) (answers behind : List Answer) (was mid now : Opening → List Call → Type 0)
+    → Goes was mid [] → HasMet setting fixed change selections asks over old new answers behind mid now → HasMet setting fixed change selections asks over old new answers behind was now
+met_passed setting fixed change selections asks over old new answers behind was mid now goes m = record {
+  parts = m.parts;
+  asked = m.asked;
+  may = m.may;
+  over_is = m.over_is;
+  given = m.given;
+  given_are = m.given_are;
+  answered = m.answered;
+  done = done_passed fixed change m.parts old new was mid now goes m.done;
 }
 
 -- an action that is no SELECT, and so is told of nothing that was read or shown

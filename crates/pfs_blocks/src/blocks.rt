@@ -25,7 +25,7 @@ use pfs_session::{Paused, Session};
 use pfs_text::Rowset;
 use std::alloc::Global;
 
-// Connects the session, where its block gives names.
+// Begins the block's lines, and connects the session where its block gives names.
 fn connect_by<A: Actor>(session: &mut Session, actor: &mut A, names: Option<Connect>)
     requires named { LabelsName A.change session.old.state.number session.old.state.actions (connect_changes names) }
     requires may { IfSome names (λ connect. MayConnect session.old.state A.setting connect.user connect.host) }
@@ -43,6 +43,7 @@ fn connect_by<A: Actor>(session: &mut Session, actor: &mut A, names: Option<Conn
     ensures used { Used 5 0 6 (A.seen actor.old) (A.seen actor.new) session.old.journal
         session.new.journal }
 {
+    actor.pass(session.number());
     match names {
         Some(names) => actor.connect(session, names.user, names.host),
         None => {}
@@ -88,6 +89,7 @@ fn play_and_quit<A: Actor>(
 {
     match play_written(alloc, setting, session, actor, answers, body) {
         Ok(()) => {
+            actor.pass(session.number());
             actor.quit(session);
             Ok(())
         }

@@ -175,8 +175,8 @@ impl<'a, 'b, R: Wait, N: Shared> Actor for Seated<'a, 'b, R, N> {
         }
     }
 
-    fn pass(&mut self, session: u64, line: u64) {
-        let _ = (session, line);
+    fn pass(&mut self, session: u64) {
+        let _ = session;
     }
 
     ghost idle = { λ s row. refl };

@@ -9,3 +9,4 @@ pub mod LineLabels
 mod ReadingCounts
 mod LineCosts
 pub mod HeldBounds
+pub mod PassedLines

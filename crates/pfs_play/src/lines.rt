@@ -74,6 +74,7 @@ pub fn play_lines<A: Actor>(
         (A.seen actor.new)) }
 {
     for line in lines {
+        actor.pass(session.number());
         match play_line(alloc, setting, session, actor, answers, line) {
             Ok(()) => {}
             Err(fault) => return Err(fault),

@@ -151,6 +151,13 @@ impl Session {
         self.log.reserve(entries)
     }
 
+    /// The session's number.
+    pub fn number(&self) -> u64
+        ensures { result ≡ self.now.state.number }
+    {
+        self.number
+    }
+
     /// The label of the session's next action.
     pub fn label(&self) -> Label
         requires { self.now.state.actions + 1 < 2 ^ 64 }

@@ -1,8 +1,9 @@
-use Rattle.std.proofs.Common.{◌≡◌, ◌∙◌, ◌+◌, ℕ, false, length, Option, IfSome, ap, refl, sym, subst, arith}
+use Rattle.std.proofs.Common.{◌≡◌, ◌∙◌, ◌+◌, ℕ, false, [], length, Option, IfSome, ap, refl, sym, subst, arith}
 use Rattle.pfs_law_script.specs.Course.{connecting}
 use Rattle.pfs_actor.specs.ActionAsks.{MayConnect}
 use Rattle.pfs_law_session.specs.Deeds.{Connecting}
 use Rattle.pfs_play.proofs.ActionParts.{may_connect}
+use Rattle.pfs_play.proofs.PassedLines.{acted_passed, may_act_passed, used_none, used_passed}
 use Rattle.pfs_play.specs.Errands.{LabelsName}
 use Rattle.pfs_runs.specs.ScriptLines.{connect_changes}
 use Rattle.pfs_runs.specs.SelectAnswers.{connect_selections}
@@ -10,7 +11,7 @@ use Rattle.pfs_script.specs.declared.blocks.Connect.{Connect}
 use Rattle.pfs_session.specs.SessionStates.{State}
 use Rattle.pfs_blocks.specs.PlayedBlocks.{HasMet}
 use Rattle.pfs_blocks.proofs.FoundSlots.{slots_found}
-use Rattle.pfs_blocks.proofs.MetAsks.{met_action, met_nothing}
+use Rattle.pfs_blocks.proofs.MetAsks.{met_action, met_nothing, met_passed}
 use Rattle.pfs_blocks.proofs.blocks.connect_by.Goals as goal
 
 pub connect-requires-clause-named : goal.connect-requires-clause-named
@@ -21,6 +22,9 @@ pub connect-requires-clause-may : goal.connect-requires-clause-may
 connect-requires-clause-may g c =
     subst (λ (names : Option Connect). IfSome names (λ connect. MayConnect c.args.session.now.state g.A.Actor.setting connect.user connect.host)) c.in-Some.is c.requires.may
 
+pub connect-requires-clause-acts : goal.connect-requires-clause-acts
+connect-requires-clause-acts g c = may_act_passed 5 6 c.args.session.now.journal (g.A.Rows.seen c.args.actor.now) (g.A.Rows.seen c.pass.new.self) c.pass.ensures.goes c.pass.ensures.kept c.requires.acts
+
 pub returns-in-Some-clause-did : goal.returns-in-Some-clause-did
 returns-in-Some-clause-did g c setting answers =
     let may = subst (λ (names : Option Connect). IfSome names (λ connect. MayConnect c.args.session.now.state g.A.Actor.setting connect.user connect.host)) c.in-Some.is c.requires.may in
@@ -30,7 +34,8 @@ returns-in-Some-clause-did g c setting answers =
     let new = c.connect.new.session in
     let was = (g.A.Rows.seen c.args.actor.now).reached in
     let now = (g.A.Rows.seen c.connect.new.self).reached in
-    let acted = c.connect.ensures.acted in
+    let mid = (g.A.Rows.seen c.pass.new.self).reached in
+    let acted = acted_passed g.A.Actor.setting g.A.Actor.change (λ admin. Connecting admin user host) old new was mid now c.pass.ensures.goes c.connect.ensures.acted in
     let few = slots_found g.A.Actor.setting g.A.Actor.change user host old new was now acted c.requires.acts.begun in
     subst (λ (names : Option Connect). HasMet setting g.A.Actor.setting g.A.Actor.change (connect_selections names) (connecting names) false old new answers answers was now) (sym c.in-Some.is)
     (met_action setting g.A.Actor.setting g.A.Actor.change (λ admin. Connecting admin user host) false old new answers was now acted refl (may_connect old.state acted.admin user host may.closed c.requires.free few) refl)
@@ -42,11 +47,20 @@ returns-in-Some-clause-actions g c =
     let one = ap (λ (names : Option Connect). length (connect_changes names)) c.in-Some.is in
     omega (arith, made, may.first, one)
 
+pub returns-in-Some-clause-used : goal.returns-in-Some-clause-used
+returns-in-Some-clause-used g c =
+    used_passed 5 0 6 c.args.session.now.journal c.connect.new.session.journal (g.A.Rows.seen c.args.actor.now) (g.A.Rows.seen c.pass.new.self) (g.A.Rows.seen c.connect.new.self) c.pass.ensures.kept c.connect.ensures.used
+
 pub returns-in-None-clause-did : goal.returns-in-None-clause-did
 returns-in-None-clause-did g c setting answers =
     let was = (g.A.Rows.seen c.args.actor.now).reached in
-    subst (λ (names : Option Connect). HasMet setting g.A.Actor.setting g.A.Actor.change (connect_selections names) (connecting names) false c.args.session.now c.args.session.now answers answers was was) (sym c.in-None.is)
-    (met_nothing setting g.A.Actor.setting g.A.Actor.change c.args.session.now answers was)
+    let mid = (g.A.Rows.seen c.pass.new.self).reached in
+    subst (λ (names : Option Connect). HasMet setting g.A.Actor.setting g.A.Actor.change (connect_selections names) (connecting names) false c.args.session.now c.args.session.now answers answers was mid) (sym c.in-None.is)
+    (met_passed setting g.A.Actor.setting g.A.Actor.change [] [] false c.args.session.now c.args.session.now answers answers was mid mid c.pass.ensures.goes
+    (met_nothing setting g.A.Actor.setting g.A.Actor.change c.args.session.now answers mid))
+
+pub returns-in-None-clause-used : goal.returns-in-None-clause-used
+returns-in-None-clause-used g c = used_none 5 0 6 c.args.session.now.journal (g.A.Rows.seen c.args.actor.now) (g.A.Rows.seen c.pass.new.self) c.pass.ensures.kept
 
 pub returns-in-None-clause-actions : goal.returns-in-None-clause-actions
 returns-in-None-clause-actions g c =

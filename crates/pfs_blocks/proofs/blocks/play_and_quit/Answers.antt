@@ -1,13 +1,16 @@
-use Rattle.std.proofs.Common.{◌∙◌, ◌++◌, true, List, [], ◌∷◌, ap, refl, subst, length}
+use Rattle.std.proofs.Common.{◌∙◌, ◌+◌, ◌++◌, true, List, [], ◌∷◌, ap, refl, subst, length}
 use Rattle.pfs_law_plain.specs.LineSteps.{kinds_at}
+use Rattle.pfs_law_session.specs.Deeds.{Quitting}
 use Rattle.pfs_play.proofs.HeldBounds.{none_wide}
 use Rattle.pfs_play.proofs.LineLabels.{names_front, names_on}
 use Rattle.pfs_play.proofs.NeedSteps.{led_on}
+use Rattle.pfs_play.proofs.PassedLines.{acted_passed, may_act_passed, used_passed}
 use Rattle.pfs_play.specs.Errands.{NamesLines}
 use Rattle.pfs_script.specs.Marks.{written_out}
 use Rattle.pfs_script.specs.declared.blocks.BlockLine.{BlockLine}
 use Rattle.pfs_script.specs.declared.blocks.BlockLine.TheVariants as said
 use Rattle.pfs_session.specs.SessionStates.{State}
+use Rattle.pfs_session.specs.Settlements.{owed_by_state, settle_cost}
 use Rattle.pfs_blocks.proofs.BlockEnds.{met_quit, no_events}
 use Rattle.pfs_blocks.proofs.BlockNeeds.{quit_acts, quit_early, quit_within, ready_lines}
 use Rattle.pfs_blocks.proofs.BlockQuits.{ends_so, written_quit}
@@ -43,8 +46,10 @@ quit-requires-clause-acts g c =
     let played = c.in-Ok.ensures.played in
     let was = g.A.Rows.seen c.args.actor.now in
     let now = g.A.Rows.seen c.play_written.new.actor in
-    quit_acts c.args.body.now c.args.session.now c.play_written.new.session was now c.requires.ready c.in-Ok.ensures.advanced
-    (led_on g.A.Actor.setting g.A.Actor.change played.parts c.args.session.now c.play_written.new.session was.reached now.reached played.done c.requires.ready.begun)
+    let at = c.play_written.new.session in
+    may_act_passed (length (owed_by_state at.state) + 253) (settle_cost (owed_by_state at.state) + 254) at.journal now (g.A.Rows.seen c.pass.new.self) c.pass.ensures.goes c.pass.ensures.kept
+    (quit_acts c.args.body.now c.args.session.now at was now c.requires.ready c.in-Ok.ensures.advanced
+    (led_on g.A.Actor.setting g.A.Actor.change played.parts c.args.session.now at was.reached now.reached played.done c.requires.ready.begun))
 
 pub returns-in-Ok-clause-did : goal.returns-in-Ok-clause-did
 returns-in-Ok-clause-did g c =
@@ -53,7 +58,9 @@ returns-in-Ok-clause-did g c =
     record {
       over = true;
       did = met_quit c.args.setting.now g.A.Actor.setting g.A.Actor.change c.args.body.now c.args.session.now c.play_written.new.session c.quit.new.session c.args.answers.now.items c.play_written.new.answers.items
-          (g.A.Rows.seen c.args.actor.now).reached (g.A.Rows.seen c.play_written.new.actor).reached (g.A.Rows.seen c.quit.new.self).reached c.in-Ok.ensures.played c.quit.ensures.acted closed;
+          (g.A.Rows.seen c.args.actor.now).reached (g.A.Rows.seen c.play_written.new.actor).reached (g.A.Rows.seen c.quit.new.self).reached c.in-Ok.ensures.played
+          (acted_passed g.A.Actor.setting g.A.Actor.change Quitting c.play_written.new.session c.quit.new.session (g.A.Rows.seen c.play_written.new.actor).reached (g.A.Rows.seen c.pass.new.self).reached (g.A.Rows.seen c.quit.new.self).reached
+          c.pass.ensures.goes c.quit.ensures.acted) closed;
     }
 
 pub returns-in-Ok-clause-kinds : goal.returns-in-Ok-clause-kinds
@@ -67,4 +74,6 @@ returns-in-Ok-clause-wide g c = ap (λ (s : State). length s.held) c.quit.ensure
 pub returns-in-Ok-clause-within : goal.returns-in-Ok-clause-within
 returns-in-Ok-clause-within g c =
     quit_within c.args.body.now c.args.session.now c.play_written.new.session c.quit.new.session (g.A.Rows.seen c.args.actor.now) (g.A.Rows.seen c.play_written.new.actor) (g.A.Rows.seen c.quit.new.self) c.in-Ok.ensures.advanced
-    c.quit.ensures.rest c.quit.ensures.used
+    c.quit.ensures.rest
+    (used_passed (length (owed_by_state c.play_written.new.session.state) + 253) 0 (settle_cost (owed_by_state c.play_written.new.session.state) + 254) c.play_written.new.session.journal c.quit.new.session.journal
+    (g.A.Rows.seen c.play_written.new.actor) (g.A.Rows.seen c.pass.new.self) (g.A.Rows.seen c.quit.new.self) c.pass.ensures.kept c.quit.ensures.used)
