@@ -8,5 +8,4 @@ mod SharedSets
 pub mod LabelWords
 pub mod WriterSets
 pub mod DeskActions
-mod LaterActors
 mod Examples

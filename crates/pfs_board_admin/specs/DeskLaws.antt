@@ -7,7 +7,6 @@ use Rattle.pfs_admin.specs.OpeningState.{opening_flags}
 use Rattle.pfs_admin.specs.AdministrationStates.{State}
 use Rattle.pfs_admin.specs.WordChanges.{flags_changed, words_changed}
 use Rattle.pfs_admin.specs.Works.{Made, signs_calls, flagging_calls}
-use Rattle.pfs_board.specs.declared.view.Change.{Change as Entry}
 use Rattle.pfs_board.specs.declared.view.Label.{Label}
 use Rattle.pfs_board.specs.declared.view.View.{View}
 use Rattle.pfs_board.specs.WholeSeats.{History}
@@ -15,16 +14,13 @@ use Rattle.pfs_board.specs.History.{labels_of}
 use Rattle.pfs_classes.specs.declared.setting.Setting.{Setting}
 use Rattle.pfs_levels.specs.declared.answers.Word.{Word}
 use Rattle.pfs_levels.specs.Calls.{Call, Enters, Leaves, Meets, action_in, label_in}
-use Rattle.pfs_levels.specs.JointCalls.{sets_of, all_calls}
 use Rattle.pfs_levels.specs.Moves.{Move, moves_calls}
 use Rattle.pfs_levels.specs.CallOrder.{all_word_marks, AllCalls}
 use Rattle.pfs_matching.specs.ObjectRules.{opening_objects}
 use Rattle.pfs_board_store.specs.RootActors.{Worked, calls_of_all, AreGathered}
 use Rattle.pfs_board_store.specs.WriterWords.{words_of}
-use Rattle.pfs_board_store.specs.ActorPhases.{AllMetSince}
 use Rattle.pfs_board_store.specs.ActorCalls.{labels_in}
 use Rattle.pfs_board_store.specs.RootLaws.{AreWritten, AllKnowSets, has_met}
-use Rattle.pfs_board_store.specs.Ties.{IsTied}
 use Rattle.pfs_switches.specs.declared.view.View.{View as WordView}
 use Rattle.pfs_switches.specs.SharedKnowledge.{IsTold}
 use Rattle.pfs_switches.specs.History.{Each}
@@ -33,7 +29,7 @@ use Rattle.pfs_switches.specs.Knowledge.{last_version, met}
 use Rattle.pfs_switches.specs.OpeningWords.{opening_words}
 use Rattle.pfs_tickets.specs.declared.view.View.{View as TicketView}
 use Rattle.pfs_board_admin.specs.Desks.{IsDesk, sets_by, work_of_change}
-use Rattle.pfs_board_admin.specs.LabelWords.{version_after, AllKeepWords, AreAsKnown, AreBehind}
+use Rattle.pfs_board_admin.specs.LabelWords.{version_after, AllKeepWords, AreAsKnown}
 
 abbrev pub StepLaw : Type 0
 StepLaw = (setting : Setting) → (change : Label → Change) → (switches : TableId) → (labels : List Label)
@@ -92,17 +88,3 @@ LeftLaw = (setting : Setting) → (change : Label → Change) → (switches : Ta
     → AreAsKnown (version_after setting change) calls next.words
     → IsDesk setting change switches (labels_in calls ++ label_in calls ∷ []) next later
     → AllKeepWords (version_after setting change) (Leaves ∷ calls)
-
--- What SharedLaw asks holds at the end of a phase. An actor of a later one, whose actions all found the labels that the
--- board had then before others, met the writer and set words behind the sets of the earlier actors
-abbrev pub LaterLaw : Type 0
-LaterLaw = (setting : Setting) → (change : Label → Change) → (switches : TableId) → (admin : State) → (pen : Known)
-    → (start words : List ℕ) → (v : View) → (w : WordView) → (t : TicketView) → (actors : List Worked)
-    → AreGathered actors v w t → (h : History start words v)
-    → IsTold (opening_words (opening_flags setting opening_objects)) (met w pen.view) pen.view
-    → IsDesk setting change switches (labels_of h.t.log) admin pen → Each (λ s. s.word < 160) pen.view.sets
-    → AllCalls (AllKeepWords (version_after setting change)) (calls_of_all actors)
-    → (a : Worked) → (mine : List Entry) → IsTied a.start.board a.calls mine
-    → AllKeepWords (version_after setting change) a.calls
-    → AreBehind (version_after setting change) (labels_of h.t.log) a.calls
-    → AllMetSince (sets_of (all_calls (calls_of_all actors))) a.calls

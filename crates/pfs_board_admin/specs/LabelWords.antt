@@ -1,6 +1,6 @@
 -- What an actor's calls say of the switch words, where a board keeps a desk: inside an action they go from the words of
 -- the labels that it found to those of these labels and its own.
-use Rattle.std.specs.Prelude.{ℕ, ◌≡◌, ◌+◌, ◌==◌, ◌<◌, ◌≤◌, true, if◌then◌else◌, List, [], ◌∷◌, ◌++◌, Some, slice_index}
+use Rattle.std.specs.Prelude.{ℕ, ◌≡◌, ◌+◌, ◌==◌, ◌<◌, true, if◌then◌else◌, List, [], ◌∷◌, ◌++◌, Some, slice_index}
 use Rattle.pfs_admin.specs.declared.changes.Change.{Change}
 use Rattle.pfs_admin.specs.Fold.{state_of}
 use Rattle.pfs_board.specs.declared.view.Label.{Label}
@@ -63,23 +63,3 @@ AllKeepWords versions (call ∷ calls) = KeepsWords versions calls call × AllKe
 -- the words as someone knows them are at the present versions
 abbrev pub AreAsKnown : (List Label → ℕ → ℕ) → List Call → List Word → Type 0
 AreAsKnown versions calls words = (at : ℕ) → at < 160 → present versions calls at ≡ known_version (Some words) at
-
--- each action found these labels before others, and a meet outside shows no version below that behind them
-abbrev pub IsBehind : (List Label → ℕ → ℕ) → List Label → List Call → Call → Type 0
-IsBehind versions first calls (Enters label labels) = (more : List Label) × (labels ≡ first ++ more)
-IsBehind versions first calls (Meets seen) =
-    action_in calls ≡ 0 → (at : ℕ) → at < 160 → versions first at ≤ slice_index seen at
-IsBehind versions first calls (Adds row amount answer) = Unit {0}
-IsBehind versions first calls (Rings row content answer) = Unit {0}
-IsBehind versions first calls (Reads row seen) = Unit {0}
-IsBehind versions first calls (Loads at version flags) = Unit {0}
-IsBehind versions first calls (Draws kind ticket) = Unit {0}
-IsBehind versions first calls (Takes row version found) = Unit {0}
-IsBehind versions first calls (Puts row content version) = Unit {0}
-IsBehind versions first calls (Frees row version) = Unit {0}
-IsBehind versions first calls (Sets at flags version) = Unit {0}
-IsBehind versions first calls Leaves = Unit {0}
-
-abbrev pub AreBehind : (List Label → ℕ → ℕ) → List Label → List Call → Type 0
-AreBehind versions first [] = Unit {0}
-AreBehind versions first (call ∷ calls) = IsBehind versions first calls call × AreBehind versions first calls

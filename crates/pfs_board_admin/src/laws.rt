@@ -1,6 +1,6 @@
 //! Laws of the definitions.
 
-ghost use Rattle.pfs_board_admin.specs.DeskLaws.{StepLaw, NumberLaw, NeverSpentLaw, SharedLaw, BegunLaw, WorkLaw, LeftLaw, LaterLaw};
+ghost use Rattle.pfs_board_admin.specs.DeskLaws.{StepLaw, NumberLaw, NeverSpentLaw, SharedLaw, BegunLaw, WorkLaw, LeftLaw};
 
 /// A desk that stands for a list of labels stands for that list and one label more once its administration followed
 /// with that label's change, as each of its calls says, and its writer knows the words as the administration has them.
@@ -32,10 +32,4 @@ pub fn keeping()
     ensures begun { BegunLaw }
     ensures work { WorkLaw }
     ensures left { LeftLaw }
-{}
-
-/// A premise of the law `later` of `pfs_board_store`, where the board keeps a desk: an actor of a later phase, whose actions
-/// all found the labels of the earlier ones before others, met the writer and set words behind the earlier sets.
-pub fn later()
-    ensures { LaterLaw }
 {}
