@@ -46,6 +46,7 @@ use Rattle.pfs_setups.specs.HeldRows.{held_rows}
 use Rattle.pfs_tables.specs.ListedRows.{listed_rows}
 use Rattle.pfs_text.specs.declared.values.RowValue.{RowValue}
 use Rattle.pfs_law_plain.proofs.ShownAnswers.{answered}
+use Rattle.pfs_law_plain.specs.RunRules.{labels_of, contents_of}
 use Rattle.pfs_law_plain.specs.ShownAnswers.{IsAnsweredBy, IsShownIn}
 
 -- some columns of all rows of a table, as they stand
@@ -218,7 +219,7 @@ answer setting = (refl, ((refl, refl), ((omega arith, refl), tt)))
 folded : (setting : Setting) → AreFolded setting change (spells setting)
 folded setting = ((tt, (tt, tt)), (((refl, refl), (tt, tt)), tt))
 
-shown : (setting : Setting) (facts : ℕ → ℕ → Facts) → Each (IsShownIn setting change facts (spells setting)) (spells setting)
+shown : (setting : Setting) (facts : ℕ → ℕ → Facts) → Each (IsShownIn setting change facts (labels_of (spells setting)) (contents_of (spells setting)) (spells setting)) (spells setting)
 shown setting facts = answered setting change facts (λ session. 5) (spells setting) (are_spells setting) (answer setting) (folded setting)
 
 -- the SELECTs of their lines, neither end of a block being one, and what they were told
@@ -237,8 +238,8 @@ second_told setting = ((is_answer tables.SetupActors (0 ∷ 1 ∷ 2 ∷ []) (hel
 
 -- so their journals answer the same, by the whole run
 pub record BothAnswered (setting : Setting) (facts : ℕ → ℕ → Facts) : Type 0 where
-  pub consumers_are : AreAnswers (IsAnsweredBy setting change facts (spells setting)) first_asks (part_entries_of (parts_in (first setting).doings)) (consumers setting ∷ [])
-  pub actors_are : AreAnswers (IsAnsweredBy setting change facts (spells setting)) second_asks (part_entries_of (parts_in (second setting).doings)) (actors setting ∷ [])
+  pub consumers_are : AreAnswers (IsAnsweredBy setting change facts (labels_of (spells setting)) (contents_of (spells setting)) (spells setting)) first_asks (part_entries_of (parts_in (first setting).doings)) (consumers setting ∷ [])
+  pub actors_are : AreAnswers (IsAnsweredBy setting change facts (labels_of (spells setting)) (contents_of (spells setting)) (spells setting)) second_asks (part_entries_of (parts_in (second setting).doings)) (actors setting ∷ [])
 
 pub both : (setting : Setting) (facts : ℕ → ℕ → Facts) → BothAnswered setting facts
 both setting facts =

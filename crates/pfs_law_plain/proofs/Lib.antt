@@ -13,9 +13,9 @@ mod BlockNotes
 mod PrintedFlags
 pub mod PlainJournals
 pub mod NextSpell
-mod QueryReadings
+pub mod QueryReadings
 mod HeldTables
-mod ShownAnswers
+pub mod ShownAnswers
 mod AnswerExamples
 mod BracketCounts
 mod ClosedEvents
@@ -27,7 +27,7 @@ pub mod InnerCalls
 pub mod ActionCounts
 pub mod EnteredLabels
 mod NumberedActions
-mod LabelWork
+pub mod LabelWork
 mod ActionOrders
 pub mod ClassCount
 pub mod TruncationRows

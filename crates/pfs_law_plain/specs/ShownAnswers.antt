@@ -18,21 +18,22 @@ use Rattle.pfs_runs.specs.SelectAnswers.{Answer, Selection, AreAnswers, IsAnswer
 use Rattle.pfs_runs.specs.Labels.{before_action, terms_of}
 use Rattle.pfs_runs.specs.Rules.{flags_by}
 
--- an answer by what the labels, the contents and the flags of all these spells are in the end
-abbrev pub IsAnsweredBy : Setting → (Label → Change) → (ℕ → ℕ → Facts) → List Spell → Selection → List Entry
-    → Answer → Type 0
-IsAnsweredBy setting change facts spells =
-    IsAnswered setting (contents_of spells)
-    (flags_by (terms_of setting change facts (labels_of spells)) (entries_of spells))
-    (before_action setting change (labels_of spells))
+-- an answer by these labels and contents, and by the flags that all these spells print
+abbrev pub IsAnsweredBy : Setting → (Label → Change) → (ℕ → ℕ → Facts) → List Label → (ℕ → ℕ → List ℕ) → List Spell
+    → Selection → List Entry → Answer → Type 0
+IsAnsweredBy setting change facts labels content spells =
+    IsAnswered setting content (flags_by (terms_of setting change facts labels) (entries_of spells))
+    (before_action setting change labels)
 
 -- where the parts of a spell answer these SELECTs by what they were told, their entries in the journal answer them by
 -- what the whole run's rows and words hold at the versions that stand there, and by the fold of the actions before each
-abbrev pub IsShownIn : Setting → (Label → Change) → (ℕ → ℕ → Facts) → List Spell → Spell → Type 0
-IsShownIn setting change facts spells spell =
+abbrev pub IsShownIn : Setting → (Label → Change) → (ℕ → ℕ → Facts) → List Label → (ℕ → ℕ → List ℕ) → List Spell
+    → Spell → Type 0
+IsShownIn setting change facts labels content spells spell =
     (selections : List (Option Selection)) (answers : List Answer)
     → AreAnswers (Answers setting) selections (parts_in spell.doings) answers
-    → AreAnswers (IsAnsweredBy setting change facts spells) selections (part_entries_of (parts_in spell.doings)) answers
+    → AreAnswers (IsAnsweredBy setting change facts labels content spells) selections
+    (part_entries_of (parts_in spell.doings)) answers
 
 -- so of all sessions that run one after another on a plain store, with the administration that is the fold of their
 -- actions
@@ -40,4 +41,4 @@ abbrev pub AnsweredLaw : Type 0
 AnsweredLaw = (setting : Setting) (change : Label → Change) (facts : ℕ → ℕ → Facts) (depths : ℕ → ℕ)
     (spells : List Spell) → AreSpells setting.limits.statement_stack depths spells
     → AllAnswer (opening_flags setting opening_objects) (calls_of spells) → AreFolded setting change spells
-    → Each (IsShownIn setting change facts spells) spells
+    → Each (IsShownIn setting change facts (labels_of spells) (contents_of spells) spells) spells

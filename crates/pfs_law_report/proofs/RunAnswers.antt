@@ -3,10 +3,8 @@ use Rattle.std.proofs.Common.{ℕ, List, [], ◌∷◌, ◌++◌, Option, None, 
 use Rattle.std.specs.List.{All}
 use Rattle.std.proofs.lemmas.List.Elements.{All-cons, All-nil, All-same}
 use Rattle.pfs_admin.specs.Fold.{state_of}
-use Rattle.pfs_admin.specs.OpeningState.{opening_flags}
 use Rattle.pfs_admin.specs.AdministrationStates.{State as Administration}
 use Rattle.pfs_admin.specs.declared.changes.Change.{Change}
-use Rattle.pfs_law_plain.specs.PlainJournals.{AloneLaw}
 use Rattle.pfs_law_plain.specs.Spells.{Doing, Spell, parts_in, stint_of, stints_of}
 use Rattle.pfs_board.specs.declared.view.Label.{Label}
 use Rattle.pfs_classes.specs.declared.setting.DigestText.{DigestText}
@@ -14,7 +12,6 @@ use Rattle.pfs_classes.specs.declared.setting.Setting.{Setting}
 use Rattle.pfs_exec.specs.declared.query.Select.{Select}
 use Rattle.pfs_law_plain.specs.ToldAnswers.{Answers, IsQuery, IsShow}
 use Rattle.pfs_journal.specs.Reports.{IsRow, IsText}
-use Rattle.pfs_matching.specs.ObjectRules.{opening_objects}
 use Rattle.pfs_model.specs.Chains.{Each}
 use Rattle.pfs_model.specs.Contexts.{fresh as empty}
 use Rattle.pfs_model.specs.EntryPlaces.{Block, AreShapedBehind, told_by}
@@ -109,12 +106,12 @@ module _ (setting : Setting) (all : All IsText setting.names)
         (before ++ stint_of spell ∷ []) spell.phase spell.phase spells shaped.2 stints.2 folded.1,
   )
 
-pub all_reportable : AloneLaw → RowLaw → BlocksLaw
-all_reportable alone rows = λ text setting phases depths spells script are answer folded.
+pub all_reportable : RowLaw → BlocksLaw
+all_reportable rows = λ text setting phases depths spells script are shaped folded.
     let clean : (labels : List Label) → IsCleanState (state_of setting (change_in phases) labels) =
     state_clean setting (change_in phases) (λ label. change_clean rows phases label
     (script_texted text setting phases script)) in
     spells_good setting (all_texts text setting phases script) (all_digests text setting phases script)
     (all_tables_named text setting phases script)
     (change_in phases) clean setting.limits.statement_stack depths [] [] 0 0 spells
-    (alone (opening_flags setting opening_objects) setting.limits.statement_stack depths spells are answer).shaped are.stints folded
+    shaped are.stints folded

@@ -1,17 +1,16 @@
 -- What a run reports is such as a report can have.
 use Rattle.std.specs.Prelude.{ℕ, ◌≡◌, List, [], ◌∷◌, map, Option, Some, None}
 use Rattle.std.specs.List.{All, flat_map}
-use Rattle.pfs_admin.specs.OpeningState.{opening_flags}
-use Rattle.pfs_law_plain.specs.Spells.{Spell, AreSpells, calls_of, parts_in}
+use Rattle.pfs_law_plain.specs.RunRules.{journals_of}
+use Rattle.pfs_law_plain.specs.Spells.{Spell, AreSpells, parts_in}
 use Rattle.pfs_classes.specs.declared.setting.Setting.{Setting}
 use Rattle.pfs_classes.specs.declared.setting.TableName.{TableName}
 use Rattle.pfs_event.specs.declared.entry.Entry.{Entry}
 use Rattle.pfs_law_plain.specs.ToldAnswers.{Answers}
 use Rattle.pfs_finals.specs.Finals.{TableRead, final_order, table_report}
 use Rattle.pfs_journal.specs.Reports.{AreAnswered, IsRow, IsTable, IsText}
-use Rattle.pfs_levels.specs.PlainStore.{AllAnswer}
-use Rattle.pfs_matching.specs.ObjectRules.{opening_objects}
 use Rattle.pfs_model.specs.Chains.{Each}
+use Rattle.pfs_model.specs.EntryPlaces.{IsShaped}
 use Rattle.pfs_model.specs.JournalCuts.{joined}
 use Rattle.pfs_law_session.specs.Deeds.{Deed, Part, Querying, Showing}
 use Rattle.pfs_law_session.specs.JournalLaws.{entries_of}
@@ -73,10 +72,10 @@ IsReportable setting spell = (selections : List (Option Selection)) (answers : L
     → AreAnswers (Answers setting) selections (parts_in spell.doings) answers
     → AreReportable (joined (entries_of (parts_in spell.doings))) answers
 
--- so of all sessions that run one after another on a plain store, with the administration that is the fold of the
--- actions of a script
+-- so of all sessions whose blocks are what their lines ask for, whatever their store, with the administration that is
+-- the fold of the actions of a script
 abbrev pub BlocksLaw : Type 0
 BlocksLaw = (text : List ℕ) (setting : Setting) (phases : List Phase) (depths : ℕ → ℕ) (spells : List Spell)
     → IsScript text setting phases → AreSpells setting.limits.statement_stack depths spells
-    → AllAnswer (opening_flags setting opening_objects) (calls_of spells)
+    → IsShaped (journals_of spells)
     → AreFolded setting (change_in phases) spells → Each (IsReportable setting) spells

@@ -23,10 +23,10 @@ pub fn tables()
     ensures { TablesLaw }
 {}
 
-/// Of sessions that run one after another, what their SELECTs answer goes with their journals as a report can have it.
+/// Of sessions whose blocks are what their lines ask for, what their SELECTs answer goes with their journals as a report
+/// can have it.
 pub fn blocks()
     ensures { BlocksLaw }
 {
-    pfs_law_plain::journals::alone();
     pfs_exec::texts::rows_are_of_the_text();
 }

@@ -3,16 +3,15 @@
 ghost use Rattle.pfs_law_script.specs.BlocksAhead.{ReachedLaw};
 ghost use Rattle.pfs_law_script.specs.CourseSteps.{NoCourseLaw, OneMoreLaw};
 ghost use Rattle.pfs_law_script.specs.ReportSpells.{AreToldOn};
-ghost use Rattle.pfs_law_script.specs.WholeCourse.{WholeLaw, RunLaw};
+ghost use Rattle.pfs_law_script.specs.WholeCourse.{FactsLaw, RunLaw, WholeLaw};
 
 /// Before anything was done there is a course over no blocks, and each session is as it begins.
 pub fn no_course()
     ensures { NoCourseLaw }
 {}
 
-/// A course over the first blocks of a script goes on at the next block, once its session has done the block's deeds
-/// and a plain store has answered its calls: with the block's spell, the administration behind its actions, its session
-/// as it stands behind it, and all other sessions as they stood.
+/// A course over the first blocks of a script goes on at the next block, once its session has done the block's deeds,
+/// whatever its store: with the block's spell, its session as it stands behind it, and all others as they stood.
 pub fn one_more()
     ensures { OneMoreLaw }
 {}
@@ -28,17 +27,25 @@ pub fn told()
     ensures { AreToldOn }
 {}
 
-/// A course over all blocks of a script, with a report that tells of it, is a plain run of the script but for what
-/// stands under the ends of its phases.
-pub fn whole()
-    ensures { WholeLaw }
+/// The events of sessions that did what the blocks of a script say have the facts that it says of them.
+pub fn facts()
+    ensures { FactsLaw }
 {
-    pfs_law_plain::answers::answered();
-    pfs_law_plain::rules::ruled();
     pfs_law_plain::facts::session();
 }
 
-/// With what stands under these ends, as the whole run's labels, contents and flags have it, it is a plain run.
+/// A course over all blocks of a script keeps the rules of a run, by the labels and the contents of the plain store
+/// that answered it; its journals show what its sessions loaded and answered, and each line agrees with those before it.
+pub fn whole()
+    ensures { WholeLaw }
+{
+    facts();
+    pfs_law_plain::answers::answered();
+    pfs_law_plain::rules::ruled();
+}
+
+/// Spells at all blocks of a script that keep the rules of a run so, whatever store they had, with a report that tells
+/// of them, and of what stands under the ends of its phases, are a run of the script.
 pub fn run()
     ensures { RunLaw }
 {}

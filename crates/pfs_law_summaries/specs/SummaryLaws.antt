@@ -5,7 +5,9 @@ use Rattle.pfs_conservation.specs.KindSummaries.{Key}
 use Rattle.pfs_journal.specs.declared.report.ReportParts.{ReportParts}
 use Rattle.pfs_law_summaries.specs.OrderlyRuns.{run_of}
 use Rattle.pfs_rows.specs.declared.table.TableKind.{TableKind}
-use Rattle.pfs_runs.specs.Runs.{IsRun, IsPlainRun, AreFinal}
+use Rattle.pfs_model.specs.EntryPlaces.{places}
+use Rattle.pfs_model.specs.PlainAgreement.{IsPlain}
+use Rattle.pfs_runs.specs.Runs.{IsRun, AreFinal, all_blocks}
 use Rattle.pfs_script.specs.declared.blocks.Phase.{Phase}
 use Rattle.pfs_script.specs.Scripts.{IsScript}
 use Rattle.pfs_law_conservation.specs.KindRows.{cells_of}
@@ -36,14 +38,20 @@ CountedLaw = (text : List ℕ) (setting : Setting) (phases : List Phase) (report
     → IsScript text setting phases → (run : IsRun setting phases report)
     → AllAreCounted setting phases report run
 
--- a plain run whose summaries, that by digest among them, show what counts there, whose histories show just the last
--- puts of each session that is there, whose current places show the last put of each, whose long history the greatest
--- ticket of each place, and whose counter of lost digests the number of statements whose digest texts have no place
+-- a run, in whatever order its sessions ran, whose summaries, that by digest among them, show what counts there, whose
+-- histories show just the last puts of each session that is there, whose current places show the last put of each,
+-- whose long history the greatest ticket of each place, and whose counter of lost digests the number of statements
+-- whose digest texts have no place
 pub record IsCountedRun (setting : Setting) (phases : List Phase) (report : ReportParts) : Type 0 where
-  pub plain : IsPlainRun setting phases report
-  pub counted : AllAreCounted setting phases report plain.run
-  pub digested : AllAreDigested setting phases report plain.run
-  pub histories : AllHaveHistories setting phases report plain.run
-  pub currents : AllHaveCurrents setting phases report plain.run
-  pub longs : AllHaveLongs setting phases report plain.run
-  pub lost_digests : AllHaveLostDigests setting phases report plain.run
+  pub run : IsRun setting phases report
+  pub counted : AllAreCounted setting phases report run
+  pub digested : AllAreDigested setting phases report run
+  pub histories : AllHaveHistories setting phases report run
+  pub currents : AllHaveCurrents setting phases report run
+  pub longs : AllHaveLongs setting phases report run
+  pub lost_digests : AllHaveLostDigests setting phases report run
+
+-- and a plain one, where each line goes by those before it
+pub record IsPlainCountedRun (setting : Setting) (phases : List Phase) (report : ReportParts) : Type 0 where
+  pub counted : IsCountedRun setting phases report
+  pub plain : IsPlain (places (all_blocks counted.run.blocks))

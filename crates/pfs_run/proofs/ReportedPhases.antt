@@ -1,8 +1,10 @@
 -- The blocks and tables that a phase reports are such as a report can have.
-use Rattle.std.proofs.Common.{ℕ, ◌+◌, List, [], ◌∷◌, ◌++◌, length, Option, ap, sym, ◌∙◌, subst}
+use Rattle.std.proofs.Common.{ℕ, ◌+◌, List, [], ◌∷◌, ◌++◌, length, ap, sym, ◌∙◌, subst}
 use Rattle.std.specs.List.{All, AllByRecursion, filter_map}
 use Rattle.std.proofs.lemmas.List.Elements.{All-from_recursion}
 use Rattle.pfs_model.proofs.EachLists.{each_behind}
+use Rattle.pfs_admin.specs.OpeningState.{opening_flags}
+use Rattle.pfs_law_plain.specs.PlainJournals.{AloneLaw}
 use Rattle.pfs_law_plain.specs.Spells.{Spell, parts_in}
 use Rattle.pfs_classes.specs.declared.setting.DigestText.{DigestText}
 use Rattle.pfs_classes.specs.declared.setting.Setting.{Setting}
@@ -12,6 +14,7 @@ use Rattle.pfs_journal.specs.Reports.{IsBlock, IsTable, IsText, rows_asked}
 use Rattle.pfs_journal.specs.declared.blocks.BlockReport.{BlockReport}
 use Rattle.pfs_journal.specs.declared.values.TableReport.{TableReport}
 use Rattle.pfs_levels.specs.Calls.{Call, Opening}
+use Rattle.pfs_matching.specs.ObjectRules.{opening_objects}
 use Rattle.pfs_model.specs.Chains.{Each}
 use Rattle.pfs_law_script.specs.BlocksAhead.{ahead_of}
 use Rattle.pfs_model.specs.JournalCuts.{joined}
@@ -40,15 +43,17 @@ told_good setting number (x ∷ xs) [] reports told of good = absurd told
 told_good setting number (x ∷ xs) (y ∷ ys) [] told of good = absurd told
 told_good setting number (x ∷ xs) (y ∷ ys) (z ∷ zs) told of good = (one_good setting number x y z told.0 of.0 good.0, told_good setting number xs ys zs told.1 of.1 good.1)
 
-pub blocks_good : BlocksLaw → (text : List ℕ) (setting : Setting) (phases before : List Phase) (first : List Block) (after : List Phase) (run : Standing) → IsScript text setting phases
+pub blocks_good : AloneLaw → BlocksLaw → (text : List ℕ) (setting : Setting) (phases before : List Phase) (first : List Block) (after : List Phase) (run : Standing) → IsScript text setting phases
     → IsAlong setting phases (position before first (ahead_of before [] after)) run → All IsBlock run.told
-blocks_good law text setting phases before first after run script a =
+blocks_good alone law text setting phases before first after run script a =
     let of : AreSpellsOf (phased (1 + length before) first) a.current =
     behind_phases setting 1 before run.ended a.earlier a.current (phased (1 + length before) first) a.phases_told a.course.blocks in
     All-from_recursion IsBlock run.told
     (told_good setting (1 + length before) first a.current run.told a.blocks_told of
     (each_behind (IsReportable setting) a.earlier a.current
-    (law text setting phases (depth_of phases) (a.earlier ++ a.current) script a.course.are_spells a.answer a.course.folded)))
+    (law text setting phases (depth_of phases) (a.earlier ++ a.current) script a.course.are_spells
+    (alone (opening_flags setting opening_objects) setting.limits.statement_stack (depth_of phases)
+    (a.earlier ++ a.current) a.course.are_spells a.answer).shaped a.course.folded)))
 
 pub tables_good : TablesLaw → (setting : Setting) (tables : List TableReport) (was now : Opening → List Call → Type 0) → All IsText setting.names
     → All (λ (digest : DigestText). IsText digest.text) setting.digests → All IsNamedTable setting.tables → AreTables setting tables was now → All IsTable tables

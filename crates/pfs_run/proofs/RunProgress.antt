@@ -1,21 +1,24 @@
 -- A run from block to block and from phase to phase, and at its end.
-use Rattle.std.proofs.Common.{ℕ, suc, ◌≡◌, ◌<◌, ◌≤◌, ◌+◌, List, [], ◌∷◌, ◌++◌, length, take, drop, get_or, append-nil, Option, refl, ap, sym, ◌∙◌, subst, arith}
+use Rattle.std.proofs.Common.{ℕ, suc, ◌≡◌, ◌<◌, ◌≤◌, ◌+◌, List, [], ◌∷◌, ◌++◌, length, take, drop, get_or, append-nil, refl, ap, sym, ◌∙◌, subst, arith}
 use Rattle.std.proofs.Math.ListN.{drop_of_length-le}
 use Rattle.std.proofs.Math.Seq.{drop-cons}
 use Rattle.std.proofs.lemmas.List.{take_all, take_more, take-append-drop}
 use Rattle.pfs_admin.specs.OpeningState.{opening_flags}
-use Rattle.pfs_law_plain.specs.Spells.{Spell, calls_of}
+use Rattle.pfs_law_plain.specs.RunRules.{labels_of, contents_of}
+use Rattle.pfs_law_plain.specs.Spells.{Spell, calls_of, stints_of}
+use Rattle.pfs_law_session.specs.Takes.{all_taken, counted_by}
 use Rattle.pfs_levels.specs.PlainStore.{AllAnswer}
 use Rattle.pfs_matching.specs.ObjectRules.{opening_objects}
+use Rattle.pfs_model.specs.EntryPlaces.{places}
+use Rattle.pfs_model.specs.PlainAgreement.{IsPlain}
 use Rattle.pfs_classes.specs.declared.setting.Setting.{Setting}
 use Rattle.pfs_law_script.proofs.BlocksAhead.{done_whole}
 use Rattle.pfs_law_script.specs.BlocksAhead.{ahead_of, block_at}
 use Rattle.pfs_law_script.specs.Course.{IsCourse, numbered}
 use Rattle.pfs_law_script.specs.ReportSpells.{ArePhasesTold, AreTold}
-use Rattle.pfs_law_script.specs.WholeCourse.{WholeLaw, RunLaw, IsRunButFinals}
+use Rattle.pfs_law_script.specs.WholeCourse.{WholeLaw, RunLaw, IsRunOf}
 use Rattle.pfs_law_report.specs.PhaseEnds.{AllEndLaw, HasEnded}
 use Rattle.pfs_journal.specs.declared.blocks.BlockReport.{BlockReport}
-use Rattle.pfs_journal.specs.declared.report.PhaseParts.{PhaseParts}
 use Rattle.pfs_journal.specs.declared.report.ReportParts.{ReportParts}
 use Rattle.pfs_runs.specs.ScriptLines.{change_in, facts_in}
 use Rattle.pfs_runs.specs.Runs.{AreFinal, IsPlainRun}
@@ -80,7 +83,9 @@ run_is whole run all_end setting phases report at_end a format is =
     let answer : AllAnswer (opening_flags setting opening_objects) (calls_of spells) = subst (λ z. AllAnswer (opening_flags setting opening_objects) (calls_of z)) same a.answer in
     let finals : AreFinal (HasEnded setting change spells) report.phases =
     subst (AreFinal (HasEnded setting change spells)) (sym is) (subst (λ z. AreFinal (HasEnded setting change z) at_end.ended) same a.finals) in
-    let but : IsRunButFinals setting phases report spells =
-    whole setting phases report (depth_of phases) spells course answer (subst (λ z. ArePhasesTold setting 1 phases z spells) (sym is) a.phases_told) format in
-    run setting phases report spells but
-    (all_end setting change (facts_in phases) (depth_of phases) spells report.phases course.are_spells answer finals)
+    let kept = whole setting phases (depth_of phases) spells course answer in
+    let r : IsRunOf setting phases report spells =
+    run setting phases report (depth_of phases) (labels_of spells) (counted_by (contents_of spells) (all_taken (stints_of spells))) (contents_of spells) spells
+    course.are_spells course.first course.blocks kept.0 (subst (λ z. ArePhasesTold setting 1 phases z spells) (sym is) a.phases_told) format
+    (all_end setting change (facts_in phases) (depth_of phases) spells report.phases course.are_spells answer finals) in
+    record { run = r.run; plain = subst (λ z. IsPlain (places z)) (sym r.journals) kept.1 }

@@ -161,6 +161,7 @@ impl<N: Named> Runner<N> {
             (standing (⟦<PlainActor<N> as Rows>⟧.seen self.new.actor) self.new.progress)) }
     {
         pfs_law_report::report_values::tables();
+        pfs_law_plain::journals::alone();
         pfs_law_report::report_values::blocks();
         let number = self.progress.phases.len() as u64 + 1;
         let tables = final_tables(self.alloc, setting, &mut self.actor)?;

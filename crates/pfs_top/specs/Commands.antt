@@ -1,5 +1,5 @@
 -- What a top call answers, and the text that goes with each answer.
-use Rattle.std.specs.Prelude.{ℕ, ◌≡◌, ◌≤◌, ◌<◌, ◌⊎◌, List, [], ◌++◌, length, codes, decimal, Option, Some, IfSome, Result, Ok, Err, String}
+use Rattle.std.specs.Prelude.{ℕ, ◌≡◌, ◌≤◌, ◌<◌, ◌⊎◌, List, ◌++◌, length, codes, decimal, Option, Some, IfSome, Result, Ok, Err, String}
 use Rattle.std.specs.declared.alloc.Global.{Global}
 use Rattle.pfs_outside.specs.DeviceCalls.{Added}
 use Rattle.pfs_outside.specs.WholeStreams.{AddedPart, ReadToEnd, ReadPast, ReadToFault, ReadPart}
@@ -10,7 +10,7 @@ use Rattle.pfs_script.specs.declared.blocks.Phase.{Phase}
 use Rattle.pfs_script.specs.declared.reasons.Reason.{Reason}
 use Rattle.pfs_script.specs.declared.reasons.Reason.TheVariants.{BadByte, OpenLine, BadForm, OutOfPlace, BadNumber, BadSession, UnknownName, BadLimit, BadNesting, BadStatement, TooLong, TooMuch}
 use Rattle.pfs_script.specs.Scripts.{IsScript, IsFirstFault}
-use Rattle.pfs_law_summaries.specs.SummaryLaws.{IsCountedRun}
+use Rattle.pfs_law_summaries.specs.SummaryLaws.{IsPlainCountedRun}
 use Rattle.pfs_journal.specs.declared.report.ReportParts.{ReportParts}
 use Rattle.pfs_journal.specs.ReportLines.{FitsReport}
 use Rattle.pfs_journal.specs.Reports.{IsReport}
@@ -58,7 +58,7 @@ fault_text line reason =
 -- the text due for phases that were run, at Done alone: what is written of a report that is a plain run of them, in
 -- which summaries and rings show what counts there
 abbrev pub HasRun : (ReportParts → List ℕ) → Setting → List Phase → Status → List ℕ → Type 0
-HasRun written setting phases Done due = (report : ReportParts) × IsReport report × IsCountedRun setting phases report
+HasRun written setting phases Done due = (report : ReportParts) × IsReport report × IsPlainCountedRun setting phases report
     × (due ≡ written report)
 HasRun written setting phases _ due = ⊥
 
@@ -66,7 +66,7 @@ HasRun written setting phases _ due = ⊥
 -- be read back. The row of WriteFault is for a front of it, of which that is not told
 abbrev pub HasReport : Setting → List Phase → Status → List ℕ → Type 0
 HasReport setting phases Done due = (report : ReportParts) × IsReport report × FitsReport report
-    × IsCountedRun setting phases report × (due ≡ spelling report)
+    × IsPlainCountedRun setting phases report × (due ≡ spelling report)
 HasReport setting phases WriteFault due = HasRun spelling setting phases Done due
 HasReport setting phases _ due = ⊥
 

@@ -1,7 +1,7 @@
 //! Running a script, and writing its report.
 
 ghost use Rattle.std.specs.Prelude.{ℕ, ◌≡◌, List, IfOk};
-ghost use Rattle.pfs_law_summaries.specs.SummaryLaws.{IsCountedRun};
+ghost use Rattle.pfs_law_summaries.specs.SummaryLaws.{IsPlainCountedRun};
 ghost use Rattle.pfs_outside.specs.DeviceCalls.{Rose};
 ghost use Rattle.pfs_script.specs.Scripts.{IsScript};
 ghost use Rattle.pfs_top.specs.Commands.{reason_number, fault_text, HasFault, HasRead, HasReport, HasInput, Tells, Ends, ReadBy};
@@ -56,7 +56,7 @@ fn complain<K: Sink>(alloc: Global, sink: &mut K, line: u64, reason: Reason) -> 
 /// had no place.
 pub fn run_script(alloc: Global, script: &Script) -> Result<Report, NoMemory>
     requires { (text : List ℕ) × IsScript text script.now.setting script.now.phases }
-    ensures { IfOk result (λ report. IsCountedRun script.now.setting script.now.phases report) }
+    ensures { IfOk result (λ report. IsPlainCountedRun script.now.setting script.now.phases report) }
 {
     pfs_law_summaries::summaries::counted();
     pfs_law_summaries::summaries::digested();

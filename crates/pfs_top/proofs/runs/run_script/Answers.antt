@@ -12,11 +12,14 @@ returns c =
     IfOk-weaker c.run_plain.result _ _ (λ report plain.
     let run = subst (λ (z : List Phase). IsPlainRun setting z report) c.as_slice.ensures plain in
     record {
-      plain = run;
-      counted = c.counted.ensures text setting phases report c.requires.1 run.run;
-      digested = c.digested.ensures text setting phases report c.requires.1 run.run;
-      histories = c.histories.ensures text setting phases report c.requires.1 run.run;
-      currents = c.currents.ensures text setting phases report c.requires.1 run.run;
-      longs = c.longs.ensures text setting phases report c.requires.1 run.run;
-      lost_digests = c.lost_digests.ensures text setting phases report c.requires.1 run.run;
+      counted = record {
+        run = run.run;
+        counted = c.counted.ensures text setting phases report c.requires.1 run.run;
+        digested = c.digested.ensures text setting phases report c.requires.1 run.run;
+        histories = c.histories.ensures text setting phases report c.requires.1 run.run;
+        currents = c.currents.ensures text setting phases report c.requires.1 run.run;
+        longs = c.longs.ensures text setting phases report c.requires.1 run.run;
+        lost_digests = c.lost_digests.ensures text setting phases report c.requires.1 run.run;
+      };
+      plain = run.plain;
     }) c.run_plain.ensures

@@ -21,7 +21,7 @@ new-report-requires g c =
     let h = c.requires.here in
     let told = c.new.ensures ∙ ap (λ z. z.items) c.replace-blocks.ensures.value in
     record {
-      blocks = subst (All IsBlock) (sym told) (blocks_good c.blocks-2.ensures h.0 c.args.setting.now h.1 h.2 h.3 h.4 (standing_of g.N.Named.setting g.N.Named.change c.args.self.now.actor.rows c.args.self.now.actor.admin c.args.self.now.progress) h.5 h.7);
+      blocks = subst (All IsBlock) (sym told) (blocks_good c.alone.ensures c.blocks-2.ensures h.0 c.args.setting.now h.1 h.2 h.3 h.4 (standing_of g.N.Named.setting g.N.Named.change c.args.self.now.actor.rows c.args.self.now.actor.admin c.args.self.now.progress) h.5 h.7);
       tables = tables_good c.tables.ensures c.args.setting.now c.in_ok-tables.tables _ _ c.requires.named c.requires.texts c.requires.tables c.in_ok-tables.ensures.tables;
       lost = c.in_ok-lost.ensures.good;
     }
@@ -45,7 +45,7 @@ returns g c =
       statements = c.counters.ensures.statements;
       waits = c.counters.ensures.waits;
       good = record {
-        blocks = subst (All IsBlock) (sym told) (blocks_good c.blocks-2.ensures h.0 c.args.setting.now h.1 h.2 h.3 h.4 (standing_of g.N.Named.setting g.N.Named.change c.args.self.now.actor.rows c.args.self.now.actor.admin c.args.self.now.progress) h.5 h.7);
+        blocks = subst (All IsBlock) (sym told) (blocks_good c.alone.ensures c.blocks-2.ensures h.0 c.args.setting.now h.1 h.2 h.3 h.4 (standing_of g.N.Named.setting g.N.Named.change c.args.self.now.actor.rows c.args.self.now.actor.admin c.args.self.now.progress) h.5 h.7);
         tables = tables_good c.tables.ensures c.args.setting.now c.in_ok-tables.tables _ _ c.requires.named c.requires.texts c.requires.tables c.in_ok-tables.ensures.tables;
         lost = c.in_ok-lost.ensures.good;
       };
