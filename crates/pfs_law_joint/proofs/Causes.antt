@@ -8,9 +8,9 @@ use Rattle.pfs_levels.specs.declared.answers.RingPut.TheVariants.{Done, Busy, La
 use Rattle.pfs_levels.specs.Calls.{Call, Adds, Rings, Reads, Loads, Draws, Takes, Puts, Frees, Sets, Enters, Leaves, Meets, after_in}
 use Rattle.pfs_levels.specs.JointCalls.{total, one_if, count, changes_of, frees_at, all_calls}
 use Rattle.pfs_levels.specs.CallOrder.{Mark, AllCalls, marks_of, all_marks, marked, is_past, above, is_between, published, released, top_in, IsCaused}
-use Rattle.pfs_levels.specs.CallOrder.{IsOthers as AreOthers}
+use Rattle.pfs_levels.specs.CallOrder.{IsOthers as IsAnothers}
 use Rattle.pfs_law_joint.specs.Phases.{IsShared, HaveEnded, AreWhole, Moment, own_of, phase_of, others_of, WereDone}
-use Rattle.pfs_law_joint.specs.Causes.{IsOthers, WasOthers, WasLate, WasFree, HasCause, CausesLaw}
+use Rattle.pfs_law_joint.specs.Causes.{IsOthers, OthersLaw, WasOthers, WasLate, WasFree, HasCause, CausesLaw}
 use Rattle.pfs_law_joint.proofs.VersionChains.{mark_chain, there, not_there}
 use Rattle.pfs_law_joint.proofs.MarkSums.{marks_apart}
 use Rattle.pfs_law_joint.proofs.CallPlaces.{Facts, facts}
@@ -43,10 +43,14 @@ module _ (flags : List ℕ) (before : List (List Call)) (m : Moment) (done : ℕ
   released_all : (row k : ℕ) → 0 < released s.marks row k → 0 < released (all_marks (phase_of m ++ before)) row k
   released_all row k some = omega (arith, some, s.order.once (λ p. one_if ((p.row == row) && not p.puts && (p.version == k))))
 
-  others_were : (row v : ℕ) → 0 < row → count (changes_of (all_calls before)) row ≤ v → AreOthers s.marks (marks_of (own_of m)) row v → IsOthers before m row v
+  others_were : (row v : ℕ) → 0 < row → count (changes_of (all_calls before)) row ≤ v → IsAnothers s.marks (marks_of (own_of m)) row v → IsOthers before m row v
   others_were row v up low (inl theirs) = inl (by_others row (v + 1) up (omega (arith, low)) theirs.0 theirs.1)
   others_were row v up low (inr freed) = inr (released_all row v freed)
 
+pub others : OthersLaw
+others = λ flags before m row version s e whole. others_were flags before m 0 s e whole (inl (omega arith)) row version
+
+module _ (theirs : OthersLaw) (flags : List ℕ) (before : List (List Call)) (m : Moment) (done : ℕ) (s : IsShared flags before (phase_of m)) (e : HaveEnded before) (whole : AllCalls AreWhole (phase_of m)) (were : WereDone before m.earlier done) where
   held : (row first second : ℕ) → 0 < row → IsCaused s.marks (marks_of (own_of m)) row first second (after_in m.earlier)
       → (top_in m.earlier row ≤ first / 4) × (first / 4 ≤ second / 4) → count (changes_of (all_calls before)) row ≤ first / 4 → WasOthers before m done row first second
   held row first second up c rise began = record {
@@ -56,11 +60,11 @@ module _ (flags : List ℕ) (before : List (List Call)) (m : Moment) (done : ℕ
     began = began;
     own = rise.0;
     given = row_above flags before m done s e whole were row (first / 4) up began c.floor;
-    between = λ v low high. by_others row v up (omega (arith, low, began)) (none_at (marks_of (own_of m)) row (first / 4) (second / 4) v low high c.between)
+    between = λ v low high. by_others flags before m done s e whole were row v up (omega (arith, low, began)) (none_at (marks_of (own_of m)) row (first / 4) (second / 4) v low high c.between)
         (omega (arith, mark_chain s.marks row v s.order.chain ∙ there v (marked s.marks row) (omega (arith, low)) (omega (arith, high, c.known))));
-    first_dirty = λ dirty. others_were row (first / 4) up began (c.first_dirty dirty);
-    second_dirty = λ dirty. others_were row (second / 4) up (omega (arith, began, rise.1)) (c.second_dirty dirty);
-    second_free = λ free. released_all row (second / 4) (c.second_free free);
+    first_dirty = λ dirty. theirs flags before m row (first / 4) s e whole up began (c.first_dirty dirty);
+    second_dirty = λ dirty. theirs flags before m row (second / 4) s e whole up (omega (arith, began, rise.1)) (c.second_dirty dirty);
+    second_free = λ free. released_all flags before m done s e whole were row (second / 4) (c.second_free free);
   }
 
   late : (row ticket version : ℕ) → 0 < row → (slice_index (s.content row version) 15 ≡ ticket + 1) × (version ≤ count s.log row) → top_in m.earlier row ≤ version
@@ -106,5 +110,5 @@ module _ (flags : List ℕ) (before : List (List Call)) (m : Moment) (done : ℕ
   has_cause (Enters label labels) f = tt
   has_cause Leaves f = tt
 
-pub causes : CausesLaw
-causes = λ flags before m done s e whole were. has_cause flags before m done s e whole were m.call (facts flags before m s)
+pub causes : OthersLaw → CausesLaw
+causes theirs = λ flags before m done s e whole were. has_cause theirs flags before m done s e whole were m.call (facts flags before m s)

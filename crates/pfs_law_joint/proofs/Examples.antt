@@ -13,7 +13,7 @@ use Rattle.pfs_levels.specs.CallOrder.{Mark, mark, marked, marks_of, all_marks, 
 use Rattle.pfs_law_joint.specs.Phases.{IsShared, HaveEnded, AreWhole, Moment}
 use Rattle.pfs_law_joint.specs.Causes.{WasOthers}
 use Rattle.pfs_law_joint.specs.Floors.{IsAbove}
-use Rattle.pfs_law_joint.proofs.Causes.{causes}
+use Rattle.pfs_law_joint.proofs.Causes.{causes, others}
 use Rattle.pfs_law_joint.proofs.Floors.{floors_kept}
 
 abbrev event : ℕ → List ℕ
@@ -153,7 +153,7 @@ module _ (amount : Stat) (one two three : Label) where
   -- so the second actor made version 2, and the addition is above that and all that the action that it knew as ended gave
   pub held_by_another : WasOthers before held 1 129 5 5
   unfolding marked marks_of all_marks
-  held_by_another = causes [] before held 1 shared ended (third_whole, (second_whole, tt)) (inr (lit≤ tt)) (lit< tt)
+  held_by_another = causes others [] before held 1 shared ended (third_whole, (second_whole, tt)) (inr (lit≤ tt)) (lit< tt)
 
   pub counted_above : IsAbove before counted 2 129 3
   counted_above = floors_kept [] before counted 2 shared ended (third_whole, (second_whole, tt)) (inl (lit≤ tt)) (lit< tt)

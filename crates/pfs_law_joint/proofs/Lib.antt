@@ -1,4 +1,5 @@
 pub mod Sums
+pub mod TicketSums
 pub mod VersionChains
 mod WordFlags
 mod NeverFalling
@@ -6,7 +7,7 @@ pub mod MarkSums
 pub mod CallPlaces
 pub mod NamedVersions
 mod LaterActions
-mod HadVersions
+pub mod HadVersions
 mod Floors
 mod Causes
 mod SameContents

@@ -6,13 +6,21 @@ use Rattle.pfs_levels.specs.declared.answers.Added.TheVariants.{Counted, Held}
 use Rattle.pfs_levels.specs.declared.answers.RingPut.TheVariants.{Done, Busy, Late}
 use Rattle.pfs_levels.specs.Calls.{Call, Adds, Rings, Reads, Loads, Draws, Takes, Puts, Frees, Sets, Enters, Leaves, Meets, after_in}
 use Rattle.pfs_levels.specs.JointCalls.{count, changes_of, frees_at, all_calls}
-use Rattle.pfs_levels.specs.CallOrder.{AllCalls, all_marks, above, published, released, top_in}
-use Rattle.pfs_law_joint.specs.Phases.{IsShared, HaveEnded, AreWhole, Moment, phase_of, others_of, WereDone}
+use Rattle.pfs_levels.specs.CallOrder.{AllCalls, marks_of, all_marks, above, published, released, top_in}
+use Rattle.pfs_levels.specs.CallOrder.{IsOthers as IsAnothers}
+use Rattle.pfs_law_joint.specs.Phases.{IsShared, HaveEnded, AreWhole, Moment, own_of, phase_of, others_of, WereDone}
 
 -- another actor of the phase published the row next, or it was released there by whomever
 abbrev pub IsOthers : List (List Call) → Moment → ℕ → ℕ → Type 0
 IsOthers before m row version = (0 < published (all_marks (others_of m)) row (version + 1))
     ⊎ (0 < released (all_marks (phase_of m ++ before)) row version)
+
+-- so it is where all marks, and those of the actor itself, say that it was another's
+abbrev pub OthersLaw : Type 0
+OthersLaw = (flags : List ℕ) (before : List (List Call)) (m : Moment) (row version : ℕ)
+    → (shared : IsShared flags before (phase_of m)) → HaveEnded before → AllCalls AreWhole (phase_of m)
+    → 0 < row → count (changes_of (all_calls before)) row ≤ version
+    → IsAnothers shared.marks (marks_of (own_of m)) row version → IsOthers before m row version
 
 -- Two lock words, in an order that one row can show, at versions that the row had by the phase's end and that are not
 -- below what the actor knew. Each version above the first up to the second was made by another actor of the phase; a

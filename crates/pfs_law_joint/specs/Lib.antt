@@ -4,3 +4,4 @@ pub mod Phases
 pub mod Floors
 pub mod Causes
 pub mod Contents
+pub mod Tickets

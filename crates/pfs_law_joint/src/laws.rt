@@ -1,10 +1,11 @@
 //! Laws of the definitions.
 
-ghost use Rattle.pfs_law_joint.specs.Causes.{CausesLaw};
+ghost use Rattle.pfs_law_joint.specs.Causes.{CausesLaw, OthersLaw};
 ghost use Rattle.pfs_law_joint.specs.Contents.{SameLaw};
 ghost use Rattle.pfs_law_joint.specs.Deeds.{RowsLaw, WordsLaw};
 ghost use Rattle.pfs_law_joint.specs.Floors.{FloorsLaw};
 ghost use Rattle.pfs_law_joint.specs.Phases.{HadLaw, LaterLaw, NamedLaw, PlainLaw, WordHadLaw, WordNamedLaw};
+ghost use Rattle.pfs_law_joint.specs.Tickets.{TicketsLaw};
 ghost use Rattle.pfs_law_joint.specs.Versions.{ChainLaw, FlagsLaw, MarksLaw, SetsLaw};
 
 /// Whoever tells the changes of a row that actors made, each as often, tells a chain of versions; so of the numbers of
@@ -42,9 +43,22 @@ pub fn floored()
     ensures { FloorsLaw }
 {}
 
+/// A row that all marks say to have been in another's hand at a version was in that of another actor of the phase, who
+/// published it next, or it was released there.
+pub fn others()
+    ensures { OthersLaw }
+{}
+
 /// What was held back, busy or late has its cause in other actors' calls, and a row that was read free stood so.
 pub fn caused()
     ensures { CausesLaw }
+{
+    others();
+}
+
+/// Each ticket of a kind below the number of those that were drawn was drawn once, and no other one.
+pub fn drawn()
+    ensures { TicketsLaw }
 {}
 
 /// What stands in a row at a version doesn't depend on the phase at whose end it is asked.

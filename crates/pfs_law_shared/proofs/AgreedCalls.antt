@@ -32,7 +32,7 @@ use Rattle.pfs_law_shared.proofs.PhaseWeights.{calls_up_to, weighed_up_to}
 use Rattle.pfs_law_shared.proofs.ActorSums.{sets_add, phase_sum}
 
 -- of all calls of all actors, of those of each
-agree_each : (flags : List ℕ) (content : ℕ → ℕ → List ℕ) (log : List At) (sets : List Setting) (actors : List (List Call)) → AllAgree flags content log sets (all_calls actors) → AllCalls (AllAgree flags content log sets) actors
+pub agree_each : (flags : List ℕ) (content : ℕ → ℕ → List ℕ) (log : List At) (sets : List Setting) (actors : List (List Call)) → AllAgree flags content log sets (all_calls actors) → AllCalls (AllAgree flags content log sets) actors
 unfolding all_calls
 agree_each flags content log sets [] all = tt
 agree_each flags content log sets (calls ∷ actors) all = (

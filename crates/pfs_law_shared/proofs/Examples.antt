@@ -63,7 +63,7 @@ use Rattle.pfs_law_plain.specs.ActionFolds.{AreFolded, AllConnectFirst}
 use Rattle.pfs_law_plain.specs.Spells.{Doing, Spell, AreSpells, doings_calls, stints_of}
 use Rattle.pfs_law_joint.specs.Phases.{IsShared}
 use Rattle.pfs_law_shared.specs.Joined.{AreJoined, JoinedLaw}
-use Rattle.pfs_law_shared.specs.Order.{AllNear, AreSingle}
+use Rattle.pfs_law_shared.specs.Order.{AreSingle}
 use Rattle.pfs_law_shared.specs.Rules.{of_rows}
 use Rattle.pfs_law_shared.specs.Shares.{actors_of, spells_at, spells_before, AreShared}
 use Rattle.pfs_law_shared.specs.Tickets.{AllPlaced}
@@ -759,9 +759,6 @@ are_shared (suc (suc n)) =
 pub all_shared : AreShared (opening_flags setting opening_objects) spells
 all_shared = subst (λ z. AreShared z spells) (sym flags_are) are_shared
 
-all_near : AllNear spells
-all_near = (((lit< tt, lit< tt), (lit< tt, (lit< tt, (lit< tt, (lit< tt, (lit< tt, (tt, ((lit< tt, lit< tt), ((lit< tt, lit< tt), (tt, ((lit< tt, lit< tt), (lit< tt, (lit< tt, (lit< tt, (lit< tt, (lit< tt, tt)))))))))))))))), ((tt, ((lit< tt, lit< tt), ((lit< tt, lit< tt), ((lit< tt, lit< tt), ((lit< tt, lit< tt), ((lit< tt, lit< tt), ((lit< tt, lit< tt), ((lit< tt, lit< tt), ((lit< tt, lit< tt), ((lit< tt, lit< tt), ((lit< tt, lit< tt), ((lit< tt, lit< tt), ((lit< tt, lit< tt), (tt, tt)))))))))))))), ((tt, (lit< tt, ((lit< tt, lit< tt), ((lit< tt, lit< tt), (tt, tt))))), ((tt, (lit< tt, ((lit< tt, lit< tt), ((lit< tt, lit< tt), ((lit< tt, lit< tt), ((lit< tt, lit< tt), ((lit< tt, lit< tt), ((lit< tt, lit< tt), ((lit< tt, lit< tt), ((lit< tt, lit< tt), (tt, tt))))))))))), tt))))
-
 all_placed : AllPlaced spells
 all_placed = ((tt, (tt, (tt, (tt, (tt, (tt, (tt, (tt, (tt, (tt, (tt, (tt, (tt, (tt, (tt, (tt, tt)))))))))))))))), ((tt, (tt, (tt, (tt, (tt, (tt, (tt, (tt, (tt, (tt, (tt, (tt, (tt, (tt, tt)))))))))))))), ((tt, (tt, (tt, (tt, (tt, tt))))), ((tt, (tt, (tt, (tt, (tt, (tt, (tt, (tt, (tt, (tt, (tt, tt))))))))))), tt))))
 
@@ -779,4 +776,4 @@ have_facts session = (given (parts_by session (stints_of spells))).1
 pub worked : JoinedLaw → AreJoined setting change facts (all_shared 1).labels (of_rows (all_shared 1).content) spells
 unfolding setting
 worked joined =
-    joined setting change facts (λ session. 5) spells 1 are_spells all_shared all_near all_placed are_single (lit≤ tt, (lit≤ tt, (lit≤ tt, (lit≤ tt, tt)))) are_folded connect_first have_facts
+    joined setting change facts (λ session. 5) spells 1 are_spells all_shared all_placed are_single (lit≤ tt, (lit≤ tt, (lit≤ tt, (lit≤ tt, tt)))) are_folded connect_first have_facts

@@ -28,6 +28,7 @@ use Rattle.pfs_law_plain.specs.RunRules.{entries_of as all_entries}
 use Rattle.pfs_law_plain.specs.SessionNotes.{ToldLaw}
 use Rattle.pfs_law_plain.specs.Spells.{Spell, AreSpells, doings_calls, parts_in, stint_of, stints_of}
 use Rattle.pfs_law_plain.specs.Weights.{put_at, free_at, WeighedLaw}
+use Rattle.pfs_law_joint.proofs.TicketSums.{drawn_sum, sum_one}
 use Rattle.pfs_law_joint.specs.Causes.{CausesLaw}
 use Rattle.pfs_law_joint.specs.Floors.{FloorsLaw}
 use Rattle.pfs_law_joint.specs.Phases.{IsShared, AreWhole, HadLaw, LaterLaw, WordHadLaw}
@@ -38,7 +39,7 @@ use Rattle.pfs_law_shared.specs.Shares.{actors_of, spells_at, spells_before, Are
 use Rattle.pfs_law_shared.proofs.ActedPlaces.{row_weight, word_weight, rows_up_to, words_up_to, all_over, rows_by, frees_by, sets_by, reaches, exceeds, frees_from, below_version, to_version, freed_below, each_both}
 use Rattle.pfs_law_shared.proofs.AgreedCalls.{calls_front, calls_back, each_spell}
 use Rattle.pfs_law_shared.proofs.DoingMarks.{AreCounted, acted}
-use Rattle.pfs_law_shared.proofs.DrawnTickets.{drawn_sum, sum_one, IsBegun, begun}
+use Rattle.pfs_law_shared.proofs.DrawnTickets.{IsBegun, begun}
 use Rattle.pfs_law_shared.proofs.FittingNotes.{WasMade, IsPut, Printed, Scene}
 use Rattle.pfs_law_shared.proofs.FlooredBlocks.{block_walked}
 use Rattle.pfs_law_shared.proofs.FlooredLines.{AreBound, IsHad, Had, WordHad, passed, floored_then, caused_then}

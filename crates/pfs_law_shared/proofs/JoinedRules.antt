@@ -4,13 +4,15 @@ use Rattle.pfs_admin.specs.OpeningState.{opening_flags}
 use Rattle.pfs_matching.specs.ObjectRules.{opening_objects}
 use Rattle.pfs_law_shared.specs.Floors.{FlooredLaw}
 use Rattle.pfs_law_shared.specs.Joined.{JoinedLaw}
+use Rattle.pfs_law_shared.specs.Order.{AllNear, NearbyLaw}
 use Rattle.pfs_law_shared.specs.Rules.{RuledLaw}
 use Rattle.pfs_law_shared.specs.Tickets.{ApartLaw, TicketedLaw, RisenLaw}
 
-pub joined : RuledLaw → FlooredLaw → TicketedLaw → RisenLaw → ApartLaw → JoinedLaw
-joined ruled floored ticketed risen apart = λ setting change facts depths spells last are shared near placed single low folded first given.
+pub joined : RuledLaw → FlooredLaw → TicketedLaw → RisenLaw → ApartLaw → NearbyLaw → JoinedLaw
+joined ruled floored ticketed risen apart nearby = λ setting change facts depths spells last are shared placed single low folded first given.
     (let flags : List ℕ = opening_flags setting opening_objects in
     let stack : ℕ = setting.limits.statement_stack in
+    let near : AllNear spells = nearby setting change flags stack depths spells last are folded shared low in
     let kept = ruled setting change facts depths spells last are shared near single low folded first given in
     let floors = floored flags stack depths spells last are shared near single low in
     record {

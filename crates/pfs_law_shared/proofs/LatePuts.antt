@@ -10,6 +10,7 @@ use Rattle.pfs_levels.specs.declared.answers.RingPut.TheVariants.{Late}
 use Rattle.pfs_model.proofs.EachLists.{each_join}
 use Rattle.pfs_model.specs.Causes.{long_row, kind_of_row}
 use Rattle.pfs_model.specs.Chains.{Each}
+use Rattle.pfs_law_joint.proofs.TicketSums.{drawn_sum, sum_one}
 use Rattle.pfs_law_joint.specs.Phases.{IsShared}
 use Rattle.pfs_law_joint.specs.Versions.{makes}
 use Rattle.pfs_law_joint.proofs.MarkSums.{count_is}
@@ -17,7 +18,7 @@ use Rattle.pfs_law_joint.proofs.NamedVersions.{rows_named, rises_back}
 use Rattle.pfs_law_joint.proofs.Sums.{one_low}
 use Rattle.pfs_law_joint.proofs.VersionChains.{log_chain, there}
 use Rattle.pfs_law_shared.proofs.AgreedCalls.{calls_front, calls_back}
-use Rattle.pfs_law_shared.proofs.DrawnTickets.{drawn_sum, sum_one, draws_add}
+use Rattle.pfs_law_shared.proofs.DrawnTickets.{draws_add}
 use Rattle.pfs_law_shared.proofs.PhaseCounts.{all_over as over_actors}
 use Rattle.pfs_law_shared.proofs.PhaseWalks.{over, over_then}
 use Rattle.pfs_law_shared.proofs.PrintedPuts.{IsTold, calls_join}

@@ -14,7 +14,7 @@ mod OrderedActions
 mod PrintedLabels
 mod RisingNumbers
 mod NamedThere
-mod LabelWork
+mod SharedAnswers
 mod NumberedActions
 mod RunRules
 mod NamedNotes
@@ -37,4 +37,8 @@ mod RisingPlaces
 mod LowAsks
 mod ApartCalls
 mod JoinedRules
+mod FirstActors
+mod EndReadings
+mod FrontLabels
+mod SharedEnds
 mod Examples

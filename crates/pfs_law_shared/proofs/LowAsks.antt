@@ -1,4 +1,5 @@
--- What an action of the fold moves and writes lies below the long history: cells, rows of digests and info rows.
+-- What an action of the fold moves and writes lies below the long history: cells, rows of digests and info rows. None is
+-- row 0.
 use Rattle.std.proofs.Common.{ℕ, zero, suc, ◌≡◌, ◌+◌, ◌*◌, ◌<◌, ◌≤◌, Bool, true, false, inl, inr, List, [], ◌∷◌, ◌++◌, map, length, Option, Some, None, IfSome, refl, sym, subst, arith}
 use Rattle.std.specs.List.{range_with_len, slice_index_or}
 use Rattle.std.specs.Option.{option_map}
@@ -12,7 +13,7 @@ use Rattle.pfs_admin.specs.ConnectionAsks.{tag_of, account_tag, user_tag, host_t
 use Rattle.pfs_admin.specs.Fold.{state_of}
 use Rattle.pfs_admin.specs.FoldLaws.{row_of}
 use Rattle.pfs_admin.specs.OpeningState.{cells_of as class_cells, kinds_of}
-use Rattle.pfs_admin.specs.Truncations.{free_ring, is_there, kept_behind, work_of_truncation, thread_source, account_source, user_source, host_source, place_asks, asks_at, level_asks, emptied, cleared, lower_asks, upper_asks, reach_of, summary_asks, all_asks, digest_ask, digest_asks, truncation_asks}
+use Rattle.pfs_admin.specs.Truncations.{freed_at, free_rows, free_ring, is_there, kept_behind, work_of_truncation, thread_source, account_source, user_source, host_source, place_asks, asks_at, level_asks, emptied, cleared, lower_asks, upper_asks, reach_of, summary_asks, all_asks, digest_ask, digest_asks, truncation_asks}
 use Rattle.pfs_admin.specs.WordChanges.{up_to}
 use Rattle.pfs_admin.specs.Works.{Sign, Releases, Tags, Work}
 use Rattle.pfs_admin.specs.declared.changes.Change.{Change}
@@ -43,16 +44,16 @@ use Rattle.pfs_rows.specs.declared.truncations.Truncation.{Truncation}
 use Rattle.pfs_rows.specs.declared.truncations.Truncation.TheVariants.{Events, Summary, DigestSummary, Accounts, Users, Hosts, SetupActors, SetupObjects}
 use Rattle.pfs_law_plain.proofs.ClassCount.{few_classes}
 use Rattle.pfs_law_plain.proofs.SessionPlaces.{fold_well, seat_at_in, seat_in_in}
-use Rattle.pfs_law_plain.proofs.TruncationRows.{AreInfosOrRings, IsRelease, rows_release, signs_split}
+use Rattle.pfs_law_plain.proofs.TruncationRows.{AreInfosOrRings, IsRelease, signs_split}
 
 abbrev pub IsLowRow : ℕ → Type 0
-IsLowRow row = row < 10242
+IsLowRow row = (0 < row) × (row < 10242)
 
 abbrev pub IsLowAsk : Ask → Type 0
 IsLowAsk a = IsLowRow a.from × Each IsLowRow a.to
 
 abbrev pub IsLowSign : Sign → Type 0
-IsLowSign (Releases row) = Unit {0}
+IsLowSign (Releases row) = 0 < row
 IsLowSign (Tags row content) = IsLowRow row
 
 abbrev pub IsLowWork : Work → Type 0
@@ -72,20 +73,20 @@ IsLowSource (of.User place) = place < 32
 IsLowSource (of.Host place) = place < 32
 
 beyond_low : (user host : Option ℕ) (cell : ℕ) → cell < 64 → IsIn user → IsIn host → Each IsLowRow (beyond user host cell)
-beyond_low (Some user) (Some host) cell c u h = (omega (arith, c, u), (omega (arith, c, h), tt))
-beyond_low (Some user) None cell c u h = (omega (arith, c, u), (omega (arith, c), tt))
-beyond_low None (Some host) cell c u h = (omega (arith, c, h), tt)
-beyond_low None None cell c u h = (omega (arith, c), tt)
+beyond_low (Some user) (Some host) cell c u h = ((omega arith, omega (arith, c, u)), ((omega arith, omega (arith, c, h)), tt))
+beyond_low (Some user) None cell c u h = ((omega arith, omega (arith, c, u)), ((omega arith, omega (arith, c)), tt))
+beyond_low None (Some host) cell c u h = ((omega arith, omega (arith, c, h)), tt)
+beyond_low None None cell c u h = ((omega arith, omega (arith, c)), tt)
 
 upper_low : (account user host : Option ℕ) (cell : ℕ) → cell < 64 → IsIn account → IsIn user → IsIn host → Each IsLowRow (upper account user host cell)
-upper_low (Some account) user host cell c a u h = (omega (arith, c, a), tt)
+upper_low (Some account) user host cell c a u h = ((omega arith, omega (arith, c, a)), tt)
 upper_low None user host cell c a u h = beyond_low user host cell c u h
 
 ask_low : (source : Source) (cell : ℕ) → IsLowSource source → cell < 64 → IsLowAsk (ask_of source cell)
-ask_low (of.Thread up) cell p c = (omega (arith, p.0, c), upper_low up.account up.user up.host cell c p.1 p.2 p.3)
-ask_low (of.Account up) cell p c = (omega (arith, p.0, c), beyond_low up.user up.host cell c p.1 p.2)
-ask_low (of.User place) cell p c = (omega (arith, p, c), tt)
-ask_low (of.Host place) cell p c = (omega (arith, p, c), (omega (arith, c), tt))
+ask_low (of.Thread up) cell p c = ((omega arith, omega (arith, p.0, c)), upper_low up.account up.user up.host cell c p.1 p.2 p.3)
+ask_low (of.Account up) cell p c = ((omega arith, omega (arith, p.0, c)), beyond_low up.user up.host cell c p.1 p.2)
+ask_low (of.User place) cell p c = ((omega arith, omega (arith, p, c)), tt)
+ask_low (of.Host place) cell p c = ((omega arith, omega (arith, p, c)), ((omega arith, omega (arith, c)), tt))
 
 asks_low : (source : Source) (cells : List ℕ) → IsLowSource source → Each IsSmall cells → Each IsLowAsk (asks_of cells source)
 asks_low source [] p small = tt
@@ -124,7 +125,7 @@ emptied_low true s cells level well small = level_low s cells level well small
 
 globals_low : (cells : List ℕ) → Each IsSmall cells → Each IsLowAsk (map (λ cell. ask (row_number (GlobalCell cell)) []) cells)
 globals_low [] small = tt
-globals_low (cell ∷ cells) small = ((omega (arith, small.0), tt), globals_low cells small.1)
+globals_low (cell ∷ cells) small = (((omega arith, omega (arith, small.0)), tt), globals_low cells small.1)
 
 cleared_low : (b : Bool) (cells : List ℕ) → Each IsSmall cells → Each IsLowAsk (cleared b cells)
 cleared_low false cells small = tt
@@ -146,7 +147,7 @@ module _ (kinds : KindCells) (s : Places) (well : AreWell s) (small : (kind : Ta
 
   digests_up : (n : ℕ) → n ≤ 65 → Each IsLowAsk (up_to digest_ask n)
   digests_up zero low = tt
-  digests_up (suc n) low = each_join IsLowAsk (up_to digest_ask n) (digest_ask n) (digests_up n (omega (arith, low))) ((omega (arith, low), tt), tt)
+  digests_up (suc n) low = each_join IsLowAsk (up_to digest_ask n) (digest_ask n) (digests_up n (omega (arith, low))) (((omega arith, omega (arith, low)), tt), tt)
 
   digests_low : Each IsLowAsk (digest_asks kinds.digests)
   unfolding digest_asks
@@ -163,40 +164,47 @@ module _ (kinds : KindCells) (s : Places) (well : AreWell s) (small : (kind : Ta
   asked_low SetupObjects = tt
 
 -- info rows
-tag_low : (row : ℕ) (content : Option (List ℕ)) → row < 10242 → Each IsLowSign (tag_of row content)
+tag_low : (row : ℕ) (content : Option (List ℕ)) → IsLowRow row → Each IsLowSign (tag_of row content)
 tag_low row None low = tt
 tag_low row (Some content) low = (low, tt)
 
 account_low : (c : Containers) (place : Option ℕ) → IsIn place → Each IsLowSign (account_tag c place)
 account_low c None low = tt
-account_low c (Some place) low = tag_low (33 + place) _ (omega (arith, low))
+account_low c (Some place) low = tag_low (33 + place) _ (omega arith, omega (arith, low))
 
 user_low : (c : Containers) (place : Option ℕ) → IsIn place → Each IsLowSign (user_tag c place)
 user_low c None low = tt
-user_low c (Some place) low = tag_low (65 + place) _ (omega (arith, low))
+user_low c (Some place) low = tag_low (65 + place) _ (omega arith, omega (arith, low))
 
 host_low : (c : Containers) (place : Option ℕ) → IsIn place → Each IsLowSign (host_tag c place)
 host_low c None low = tt
-host_low c (Some place) low = tag_low (97 + place) _ (omega (arith, low))
+host_low c (Some place) low = tag_low (97 + place) _ (omega arith, omega (arith, low))
 
 uppers_low : (c : Containers) (seat : Seated) → IsInRange seat → Each IsLowSign (upper_tags c seat.connection)
 uppers_low c seat r =
     each_join IsLowSign (account_tag c seat.connection.account) _ (account_low c seat.connection.account r.places.account)
     (each_join IsLowSign (user_tag c seat.connection.user) _ (user_low c seat.connection.user r.places.user) (host_low c seat.connection.host r.places.host))
 
-released_low : (signs : List Sign) → Each IsRelease signs → Each IsLowSign signs
-released_low [] r = tt
-released_low (Releases row ∷ signs) r = (tt, released_low signs r.1)
-released_low (Tags row content ∷ signs) r = absurd r.0
+freed_low : (first count : ℕ) → 0 < first → Each IsLowSign (free_rows first count)
+unfolding free_rows
+freed_low first count up = all_up count where
+  all_up : (n : ℕ) → Each IsLowSign (up_to (freed_at first) n)
+  all_up zero = tt
+  all_up (suc n) = each_join IsLowSign (up_to (freed_at first) n) (freed_at first n) (all_up n) (omega (arith, up), tt)
 
-ascending_low : (low : ℕ) (signs : List Sign) → Ascends low 129 (map row_of signs) → Each IsLowSign signs
-ascending_low low [] a = tt
-ascending_low low (Releases row ∷ signs) a = (tt, ascending_low (row + 1) signs a.1.1)
-ascending_low low (Tags row content ∷ signs) a = (omega (arith, a.1.0), ascending_low (row + 1) signs a.1.1)
+ascending_low : (low : ℕ) (signs : List Sign) → 0 < low → Ascends low 129 (map row_of signs) → Each IsLowSign signs
+ascending_low low [] up a = tt
+ascending_low low (Releases row ∷ signs) up a = (omega (arith, up, a.0), ascending_low (row + 1) signs (omega arith) a.1.1)
+ascending_low low (Tags row content ∷ signs) up a = ((omega (arith, up, a.0), omega (arith, a.1.0)), ascending_low (row + 1) signs (omega arith) a.1.1)
+
+rings_low : (low : ℕ) (signs : List Sign) → 0 < low → Ascends low 14242 (map row_of signs) → Each IsRelease signs → Each IsLowSign signs
+rings_low low [] up a r = tt
+rings_low low (Releases row ∷ signs) up a r = (omega (arith, up, a.0), rings_low (row + 1) signs (omega arith) a.1.1 r.1)
+rings_low low (Tags row content ∷ signs) up a r = absurd r.0
 
 split_low : (signs : List Sign) → AreInfosOrRings signs → Each IsLowSign signs
-split_low signs (inl a) = ascending_low 1 signs a
-split_low signs (inr a) = released_low signs a.1
+split_low signs (inl a) = ascending_low 1 signs (omega arith) a
+split_low signs (inr a) = rings_low 8450 signs (omega arith) a.0 a.1
 
 -- the works
 pub connect_low : (s : Administration) (number user host : ℕ) → AreWell s.kept.now.places → IsLowWork (work_of_connect s number user host) × IfSome (seat_at s number user host) IsInRange
@@ -206,7 +214,7 @@ connect_low s number user host well = (on (seat_at s number user host) seated, s
 
   on : (o : Option Seated) → IfSome o IsInRange → IsLowWork (connect_work s.words (thread_flags s user host) (connected s number user host).kept.now o)
   on None r = (tt, tt)
-  on (Some seat) r = (tt, ((let low : seat.slot < 32 = r.slot in omega (arith, low)), uppers_low (connected s number user host).kept.now seat r))
+  on (Some seat) r = (tt, ((omega arith, (let low : seat.slot < 32 = r.slot in omega (arith, low))), uppers_low (connected s number user host).kept.now seat r))
 
 module _ (setting : Setting) (s : Administration) (well : AreWell s.kept.now.places) (cells : s.cells ≡ class_cells setting.classes) (kinds : s.kinds ≡ kinds_of setting) where
   small_range : (cell more : ℕ) → cell + more ≤ 62 → Each IsSmall (range_with_len cell more ++ 62 ∷ 63 ∷ [])
@@ -226,7 +234,7 @@ module _ (setting : Setting) (s : Administration) (well : AreWell s.kept.now.pla
     on None r = (tt, tt)
     on (Some seat) r = (
       asks_low (of.Thread (up_of seat)) s.cells (r.slot, r.places.account, r.places.user, r.places.host) (subst (Each IsSmall) (sym cells) small_cells),
-      (tt, each_join IsLowSign (upper_tags (has_quit s number).kept.now seat.connection) (free_ring seat.slot) (uppers_low (has_quit s number).kept.now seat r) (released_low (free_ring seat.slot) (rows_release (8450 + 56 * seat.slot) 56))),
+      (omega arith, each_join IsLowSign (upper_tags (has_quit s number).kept.now seat.connection) (free_ring seat.slot) (uppers_low (has_quit s number).kept.now seat r) (freed_low (8450 + 56 * seat.slot) 56 (omega arith))),
     )
 
   pub truncation_low : (what : Truncation) → IsLowWork (work_of_truncation s what)

@@ -24,7 +24,7 @@ use Rattle.pfs_law_plain.specs.Spells.{Spell, AreSpells, parts_in, stints_of}
 use Rattle.pfs_runs.specs.Labels.{before_action, work_of_label, rooms_of_label, answer_of_label, label_at, asked_at, rooms_at, answers_at, words_at}
 use Rattle.pfs_law_shared.specs.Order.{AllNear}
 use Rattle.pfs_law_shared.proofs.ActionNotes.{acts, act_by, acts_of, places_acts, parts_acts}
-use Rattle.pfs_law_shared.proofs.LabelWork.{KnownActing}
+use Rattle.pfs_law_plain.proofs.LabelWork.{KnownActing}
 use Rattle.pfs_law_shared.proofs.OrderedActions.{each_near}
 use Rattle.pfs_law_shared.proofs.PhaseChains.{times_then}
 use Rattle.pfs_law_shared.proofs.PhaseWalks.{IsSum, same_kept, sum_up_to, IsRelated, walked}

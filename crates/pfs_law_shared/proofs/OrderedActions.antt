@@ -6,7 +6,7 @@ use Rattle.pfs_board.specs.declared.view.Label.{Label}
 use Rattle.pfs_event.specs.declared.entry.Entry.{Entry}
 use Rattle.pfs_event.specs.declared.entry.Entry.TheVariants as says
 use Rattle.pfs_levels.specs.Calls.{Call, Adds, Rings, Reads, Loads, Draws, Takes, Puts, Frees, Sets, Enters, Leaves, Meets}
-use Rattle.pfs_levels.specs.CallOrder.{Mark, marks_of, all_marks, word_marks_of, all_word_marks}
+use Rattle.pfs_levels.specs.CallOrder.{AllCalls, Mark, marks_of, all_marks, word_marks_of, all_word_marks}
 use Rattle.pfs_levels.specs.JointCalls.{total, one_if, At, IsCounted, at_put, at_free, changes_of, sets_of, count}
 use Rattle.pfs_levels.specs.declared.answers.Added.TheVariants.{Counted, Held}
 use Rattle.pfs_levels.specs.declared.answers.RingPut.TheVariants.{Done, Busy, Late}
@@ -266,12 +266,15 @@ zero_up_to most (spell ∷ spells) = omega (arith, zero_up_to most spells, zero 
   zero true = refl
   zero false = refl
 
-pub each_near : (spells : List Spell) → AllNear spells → Each (λ spell. Each IsNear (doings_calls spell.doings)) spells
-each_near [] all = tt
-each_near (spell ∷ spells) all = (
-  (calls_back (Each IsNear) (actors_of spells) (doings_calls spell.doings ∷ []) all).0,
-  each_near spells (calls_front (Each IsNear) (actors_of spells) (doings_calls spell.doings ∷ []) all),
+pub each_actor : (P : List Call → Type 0) (spells : List Spell) → AllCalls P (actors_of spells) → Each (λ spell. P (doings_calls spell.doings)) spells
+each_actor P [] all = tt
+each_actor P (spell ∷ spells) all = (
+  (calls_back P (actors_of spells) (doings_calls spell.doings ∷ []) all).0,
+  each_actor P spells (calls_front P (actors_of spells) (doings_calls spell.doings ∷ []) all),
 )
+
+pub each_near : (spells : List Spell) → AllNear spells → Each (λ spell. Each IsNear (doings_calls spell.doings)) spells
+each_near spells all = each_actor (Each IsNear) spells all
 
 -- printed numbers are versions of row 0
 entry_zero : (h : At → ℕ) (e : Entry) → total (λ c. h (put_at c)) (action_change e) ≡ total (λ c. h (at_put 0 c.version)) (action_change e)

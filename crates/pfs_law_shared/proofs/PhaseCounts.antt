@@ -160,17 +160,20 @@ or_opens : (n : ℕ) (b : Bool) → (nat_lt 0 n || b) ≡ nat_lt 0 (n + one_if b
 or_opens n true = grind (arith, nat_tests)
 or_opens n false = grind (arith, nat_tests)
 
+pub free_is : (ps : List Placed) (calls : List Call) → ArePrinted ps calls → (row : ℕ) → 0 < row → is_free_after ps row ≡ nat_lt 0 (frees_at (changes_of calls) row (count (changes_of calls) row))
+free_is ps calls w row up =
+    ap (λ z. nat_lt 0 (times (is_that (change_at row z)) (each_of release_of ps)) || ((z == 0) && opens_free row)) (rows_counted ps calls w row)
+    ∙ (ap (λ z. nat_lt 0 z || ((n == 0) && opens_free row)) (frees_counted ps calls w row n)
+    ∙ (ap (λ b. nat_lt 0 (total (λ x. one_if (frees_it row n x)) (changes_of calls)) || ((n == 0) && b)) (opens_alike row up)
+    ∙ or_opens (total (λ x. one_if (frees_it row n x)) (changes_of calls)) ((n == 0) && opens_free_there row)))
+  where
+    n : ℕ
+    n = count (changes_of calls) row
+
 pub stands_free : (ps : List Placed) (calls : List Call) → ArePrinted ps calls → (row : ℕ) → 0 < row → is_free_after ps row ≡ true → 0 < frees_at (changes_of calls) row (count (changes_of calls) row)
-stands_free ps calls w row up is = some (nat_lt 0 (frees_at (changes_of calls) row n)) refl (sym same ∙ is) where
+stands_free ps calls w row up is = some (nat_lt 0 (frees_at (changes_of calls) row n)) refl (sym (free_is ps calls w row up) ∙ is) where
   n : ℕ
   n = count (changes_of calls) row
-
-  same : is_free_after ps row ≡ nat_lt 0 (frees_at (changes_of calls) row n)
-  same =
-      ap (λ z. nat_lt 0 (times (is_that (change_at row z)) (each_of release_of ps)) || ((z == 0) && opens_free row)) (rows_counted ps calls w row)
-      ∙ (ap (λ z. nat_lt 0 z || ((n == 0) && opens_free row)) (frees_counted ps calls w row n)
-      ∙ (ap (λ b. nat_lt 0 (total (λ x. one_if (frees_it row n x)) (changes_of calls)) || ((n == 0) && b)) (opens_alike row up)
-      ∙ or_opens (total (λ x. one_if (frees_it row n x)) (changes_of calls)) ((n == 0) && opens_free_there row)))
 
   some : (b : Bool) → nat_lt 0 (frees_at (changes_of calls) row n) ≡ b → b ≡ true → 0 < frees_at (changes_of calls) row n
   some true e q = positive (frees_at (changes_of calls) row n) e where

@@ -28,6 +28,7 @@ use Rattle.pfs_law_plain.specs.RunRules.{entries_of as all_entries}
 use Rattle.pfs_law_plain.specs.SessionNotes.{ToldLaw}
 use Rattle.pfs_law_plain.specs.Spells.{Doing, Spell, AreSpells, around, entering, doing_calls, doings_calls, parts_in, stint_of, stints_of}
 use Rattle.pfs_law_plain.specs.Weights.{WeighedLaw}
+use Rattle.pfs_law_joint.proofs.TicketSums.{of_draw, sum_to, drawn_sum, sum_whole, sum_one}
 use Rattle.pfs_law_joint.proofs.Sums.{total_then}
 use Rattle.pfs_law_shared.specs.Order.{AreSingle}
 use Rattle.pfs_law_shared.specs.Shares.{actors_of, spells_at, spells_before, AreShared}
@@ -36,7 +37,7 @@ use Rattle.pfs_law_shared.proofs.AgreedCalls.{calls_front, calls_back, each_spel
 use Rattle.pfs_law_shared.proofs.ActedPlaces.{blocks_each, each_both}
 use Rattle.pfs_law_shared.proofs.ActorSums.{test_sum, cond_sum}
 use Rattle.pfs_law_shared.proofs.DrawnPuts.{drawn_in, drawn_then, puts_in, Match, match_then, part_drawn}
-use Rattle.pfs_law_shared.proofs.DrawnTickets.{of_draw, sum_to, drawn_sum, sum_whole, sum_one, draws_add, begun}
+use Rattle.pfs_law_shared.proofs.DrawnTickets.{draws_add, begun}
 use Rattle.pfs_law_shared.proofs.OthersPrinted.{IsOf, lines_are}
 use Rattle.pfs_law_shared.proofs.PhaseCounts.{all_over as over_actors}
 use Rattle.pfs_law_shared.proofs.PhaseWalks.{IsSum, IsKept, same_kept, low_kept, over, over_then, picked_over}

@@ -5,7 +5,7 @@ use Rattle.std.proofs.lemmas.Option.{same_Some}
 use Rattle.pfs_board.specs.Knowledge.{no_label}
 use Rattle.pfs_board.specs.declared.view.Label.{Label}
 use Rattle.pfs_levels.specs.Calls.{Call, Adds, Rings, Reads, Loads, Draws, Takes, Puts, Frees, Sets, Enters, Leaves, Meets, action_in, label_in}
-use Rattle.pfs_levels.specs.CallOrder.{AreNamed, marked}
+use Rattle.pfs_levels.specs.CallOrder.{AllCalls, AreNamed, marked}
 use Rattle.pfs_levels.specs.JointCalls.{total, one_if}
 use Rattle.pfs_model.specs.Actions.{numbers_by}
 use Rattle.pfs_model.specs.Chains.{Each, action_change, change_at, each_of}
@@ -31,13 +31,14 @@ use Rattle.pfs_law_shared.specs.Journals.{AgreedLaw}
 use Rattle.pfs_law_plain.specs.SessionNotes.{ToldLaw, ToldThroughLaw}
 use Rattle.pfs_law_plain.specs.Spells.{Doing, Spell, AreSpells, around, entering, doing_calls, doings_calls, parts_in, stints_of}
 use Rattle.pfs_law_shared.specs.Order.{AllNear}
-use Rattle.pfs_law_shared.proofs.OrderedActions.{numbers_are}
+use Rattle.pfs_law_shared.proofs.OrderedActions.{each_actor, numbers_are}
 use Rattle.pfs_law_shared.specs.Shares.{actors_of, spells_at, spells_before, AreShared}
 use Rattle.pfs_law_shared.proofs.ActionNotes.{acts, act_by, acts_of, places_acts, own_acts, stints_acts}
 use Rattle.pfs_law_shared.proofs.AgreedCalls.{calls_front, calls_back, each_spell}
 use Rattle.pfs_law_shared.proofs.DoingMarks.{within_action, entering_action}
-use Rattle.pfs_law_shared.proofs.LabelWork.{StandsAmong, StandAmong, AllStandAmong}
+use Rattle.pfs_law_plain.proofs.LabelWork.{StandsAmong, StandAmong, AllStandAmong}
 use Rattle.pfs_law_shared.proofs.InnerCalls.{AreWithin, turns_within, calls_within}
+use Rattle.pfs_law_shared.proofs.PrintedPuts.{actors_all}
 
 -- a session's numbers are those of its lines
 pub session_numbers : ToldThroughLaw → (stack : ℕ) (depths : ℕ → ℕ) (session : ℕ) (spells : List Spell) → AreStints stack depths (stints_of spells) → AreDone (stints_of spells)
@@ -179,7 +180,7 @@ each_label all session made (d ∷ ds) l a = by_action (action_of d.part.deed) l
         line_is : (n i : ℕ) → n + 1 + i + 1 ≡ n + suc i + 1
         line_is n i = omega arith
 
-ones : (cs : List Change) → total (λ c. 1) cs ≡ length cs
+pub ones : (cs : List Change) → total (λ c. 1) cs ≡ length cs
 unfolding total
 ones [] = refl
 ones (c ∷ cs) = ap (λ n. 1 + n) (ones cs) ∙ one (length cs) where
@@ -191,17 +192,19 @@ line_is i = omega arith
 
 module _ (flags : List ℕ) (stack : ℕ) (depths : ℕ → ℕ) (spells : List Spell) (last : ℕ) (are : AreSpells stack depths spells) (shared : AreShared flags spells)
     (low : Each (λ spell. spell.phase ≤ last) spells) where
-  stand : Each (λ spell. StandLabelled (shared last).labels spell.doings) spells
-  stand =
-      let labels : List Label = (shared last).labels in
-      let P : List Call → Type 0 = AreNamed labels in
+  -- what was found of them by all that they have in common
+  pub named_all : AllCalls (AreNamed (shared last).labels) (actors_of spells)
+  named_all =
+      let P : List Call → Type 0 = AreNamed (shared last).labels in
       let now : List (List Call) = actors_of (spells_at last spells) in
       let before : List (List Call) = actors_of (spells_before last spells) in
-      let named = each_spell P last spells low (calls_front P now before (shared last).order.named) (calls_back P now before (shared last).order.named) in
-      spells_labelled labels spells (done stack depths (stints_of spells) are.stints) named
+      actors_all P spells (each_spell P last spells low (calls_front P now before (shared last).order.named) (calls_back P now before (shared last).order.named))
+
+  stand : (labels : List Label) → AllCalls (AreNamed labels) (actors_of spells) → Each (λ spell. StandLabelled labels spell.doings) spells
+  stand labels named = spells_labelled labels spells (done stack depths (stints_of spells) are.stints) (each_actor (AreNamed labels) spells named)
 
   pub among : AllStandAmong (shared last).labels spells
-  among = all_stand (shared last).labels none_made spells (all_lined stack depths spells are.stints are.entered) stand
+  among = all_stand (shared last).labels none_made spells (all_lined stack depths spells are.stints are.entered) (stand (shared last).labels named_all)
 
 module _ (rows : RowsLaw) (words : WordsLaw) (chain : ChainLaw) (marks : MarksLaw) (agreed : AgreedLaw) (told : ToldLaw) (weighed : WeighedLaw) (through : ToldThroughLaw)
     (flags : List ℕ) (stack : ℕ) (depths : ℕ → ℕ) (spells : List Spell) (last : ℕ) (are : AreSpells stack depths spells) (shared : AreShared flags spells) (near : AllNear spells)
@@ -214,14 +217,13 @@ module _ (rows : RowsLaw) (words : WordsLaw) (chain : ChainLaw) (marks : MarksLa
       let k : length (each_of action_change (up_to_phase last (entries_of spells))) ≡ marked (shared last).marks 0 = sym (ones (each_of action_change (up_to_phase last (entries_of spells)))) ∙ (n ∙ m) in
       (shared last).order.ended ∙ (sym k ∙ ap (λ z. length (each_of action_change z)) whole)
 
-  pub labels_are : AreLabels (shared last).labels (entries_of spells)
-  labels_are =
-      let labels : List Label = (shared last).labels in
+  pub labels_are : (labels : List Label) → length labels ≡ length (shared last).labels → AllCalls (AreNamed labels) (actors_of spells) → AreLabels labels (entries_of spells)
+  labels_are labels many named =
       let d : AreDone (stints_of spells) = done stack depths (stints_of spells) are.stints in
       record {
-        few = few;
+        few = many ∙ few;
         each = λ session i number e.
-            each_label labels session 0 (own_doings session spells) (own_lined session none_made spells (all_lined stack depths spells are.stints are.entered)) (own_labelled labels session spells (stand flags stack depths spells last are shared low)) i number
+            each_label labels session 0 (own_doings session spells) (own_lined session none_made spells (all_lined stack depths spells are.stints are.entered)) (own_labelled labels session spells (stand flags stack depths spells last are shared low labels named)) i number
             (sym (ap (λ z. slice_get z i) (session_numbers through stack depths session spells are.stints d)) ∙ e)
             ∙ ap (λ z. Some (record { session = session; line = z })) (line_is i);
       }

@@ -26,6 +26,7 @@ use Rattle.pfs_law_plain.specs.SessionNotes.{ToldLaw}
 use Rattle.pfs_law_plain.specs.Spells.{Spell, AreSpells, doings_calls, parts_in, stints_of}
 use Rattle.pfs_law_plain.specs.Weights.{WeighedLaw}
 use Rattle.pfs_session.specs.SessionStates.{State}
+use Rattle.pfs_law_joint.proofs.TicketSums.{drawn_sum, sum_one}
 use Rattle.pfs_law_joint.specs.Phases.{IsShared}
 use Rattle.pfs_law_joint.specs.Versions.{makes}
 use Rattle.pfs_law_joint.proofs.Sums.{total_then, one_low}
@@ -34,7 +35,7 @@ use Rattle.pfs_law_shared.specs.Shares.{actors_of, spells_at, spells_before, Are
 use Rattle.pfs_law_shared.specs.Tickets.{IsApart, AllApart, RisenLaw}
 use Rattle.pfs_law_shared.proofs.ActedPlaces.{blocks_each}
 use Rattle.pfs_law_shared.proofs.DrawnPuts.{long_by}
-use Rattle.pfs_law_shared.proofs.DrawnTickets.{drawn_sum, sum_one, draws_add}
+use Rattle.pfs_law_shared.proofs.DrawnTickets.{draws_add}
 use Rattle.pfs_law_shared.proofs.LatePuts.{over_own}
 use Rattle.pfs_law_shared.proofs.OthersPrinted.{IsOf, lines_are, chosen_whole}
 use Rattle.pfs_law_shared.proofs.PhaseCounts.{ArePrinted, printed_up_to, free_printed}

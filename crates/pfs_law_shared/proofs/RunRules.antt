@@ -41,14 +41,14 @@ use Rattle.pfs_law_shared.specs.Journals.{AgreedLaw, ChainedLaw, HaveAgreed, Hav
 use Rattle.pfs_law_shared.specs.Labels.{LabelledLaw}
 use Rattle.pfs_law_shared.specs.Order.{IsNear, HaveOrder, OrderedLaw, RisingLaw, ThereLaw}
 use Rattle.pfs_law_shared.specs.Rules.{of_rows, RuledLaw}
-use Rattle.pfs_law_shared.proofs.LabelWork.{KnownActing, spells_known}
+use Rattle.pfs_law_plain.proofs.LabelWork.{KnownActing, spells_known}
 use Rattle.pfs_law_shared.proofs.NamedThere.{parts_near}
 use Rattle.pfs_law_shared.proofs.NumberedActions.{AreNumbered, numbered, unique, asked_are, rooms_are, answers_are, words_are}
 use Rattle.pfs_law_shared.proofs.OrderedActions.{each_near}
-use Rattle.pfs_law_shared.proofs.PrintedLabels.{among}
+use Rattle.pfs_law_shared.proofs.PrintedLabels.{among, named_all}
 
 -- rows of the store have the contents that their sessions have in common
-in_rows : (content : ℕ → ℕ → List ℕ) (row version : ℕ) → IsRow row → of_rows content row version ≡ content row version
+pub in_rows : (content : ℕ → ℕ → List ℕ) (row version : ℕ) → IsRow row → of_rows content row version ≡ content row version
 in_rows content row version is = ap (λ b. cond b (content row version) (opening_words row)) (and_from (nat_lt 0 row) (nat_lt row 14242) (lt-ltb 0 row is.0) (lt-ltb row 14242 is.1))
 
 rows_open : (content : ℕ → ℕ → List ℕ) → ((row : ℕ) → 0 < row → row < 14242 → content row 0 ≡ opening_content row) → (row : ℕ) → of_rows content row 0 ≡ opening_words row
@@ -144,7 +144,7 @@ ruled m told chained agreed ordered rising there labelled = λ setting change fa
     let chains : HaveChains spells = chained flags stack depths spells are.stints shared in
     let agree : HaveAgreed flags stack last spells shared = agreed flags stack depths spells last are.stints shared low in
     let order : HaveOrder spells = ordered flags stack depths spells last are shared near low in
-    let names : AreLabels labels all = labelled flags stack depths spells last are shared near low in
+    let names : AreLabels labels all = labelled flags stack depths spells last are shared near low labels refl (named_all flags stack depths spells last are shared low) in
     let numbers : AreNumbered (length labels) (all_numbers stints) = numbered told stack depths spells last (length labels) are near low agree.journals.shaped (order.numbers last) names.few in
     let known = spells_known setting change labels none_made spells folded lined (among flags stack depths spells last are shared low) in
     let each : Each (λ stint. AllContentsAgree content stint.parts) stints = spells_agree (shared last).content spells nears agree.contents in

@@ -10,7 +10,7 @@ use Rattle.pfs_law_plain.specs.Spells.{Spell, AreSpells, stints_of}
 use Rattle.pfs_law_session.specs.Amounts.{AllFacts, at_first}
 use Rattle.pfs_law_session.specs.Stints.{parts_by}
 use Rattle.pfs_law_session.specs.Takes.{all_taken, counted_by}
-use Rattle.pfs_law_shared.specs.Order.{AllNear, AreSingle}
+use Rattle.pfs_law_shared.specs.Order.{AreSingle}
 use Rattle.pfs_law_shared.specs.Rules.{of_rows}
 use Rattle.pfs_law_shared.specs.Shares.{AreShared}
 use Rattle.pfs_law_shared.specs.Tickets.{AllPlaced}
@@ -31,7 +31,7 @@ pub record AreJoined (setting : Setting) (change : Label → Change) (facts : �
 abbrev pub JoinedLaw : Type 0
 JoinedLaw = (setting : Setting) (change : Label → Change) (facts : ℕ → ℕ → Facts) (depths : ℕ → ℕ) (spells : List Spell)
     (last : ℕ) → AreSpells setting.limits.statement_stack depths spells
-    → (shared : AreShared (opening_flags setting opening_objects) spells) → AllNear spells → AllPlaced spells
+    → (shared : AreShared (opening_flags setting opening_objects) spells) → AllPlaced spells
     → AreSingle spells → Each (λ spell. spell.phase ≤ last) spells → AreFolded setting change spells
     → AllConnectFirst spells
     → ((session : ℕ) → AllFacts (facts session) at_first (parts_by session (stints_of spells)))

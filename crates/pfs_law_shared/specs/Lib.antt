@@ -6,3 +6,5 @@ pub mod Labels
 pub mod Rules
 pub mod Tickets
 pub mod Joined
+pub mod Answers
+pub mod Ends

@@ -1,9 +1,13 @@
 -- The order of the actions in the journals of sessions at once.
 use Rattle.std.specs.Prelude.{ℕ, ◌≡◌, ◌≤◌, ◌<◌, List, [], ◌∷◌}
+use Rattle.pfs_admin.specs.declared.changes.Change.{Change}
+use Rattle.pfs_board.specs.declared.view.Label.{Label}
+use Rattle.pfs_classes.specs.declared.setting.Setting.{Setting}
 use Rattle.pfs_levels.specs.Calls.{Call, Adds, Rings, Reads, Loads, Draws, Takes, Puts, Frees, Sets, Enters, Leaves, Meets, IsRow}
 use Rattle.pfs_levels.specs.CallOrder.{AllCalls}
 use Rattle.pfs_levels.specs.PlainStore.{AllAnswer}
 use Rattle.pfs_levels.specs.declared.answers.Added.TheVariants.{Counted, Held}
+use Rattle.pfs_law_plain.specs.ActionFolds.{AreFolded}
 use Rattle.pfs_law_plain.specs.RunRules.{entries_of}
 use Rattle.pfs_law_plain.specs.Spells.{Spell, AreSpells, calls_of, stints_of}
 use Rattle.pfs_law_session.specs.Stints.{AreStints}
@@ -34,6 +38,12 @@ AllNear spells = AllCalls (Each IsNear) (actors_of spells)
 -- so do the calls of a plain store
 abbrev pub NearLaw : Type 0
 NearLaw = (flags : List ℕ) (spells : List Spell) → AllAnswer flags (calls_of spells) → AllNear spells
+
+-- and those of sessions of the fold, whatever their store, by what they have in common
+abbrev pub NearbyLaw : Type 0
+NearbyLaw = (setting : Setting) (change : Label → Change) (flags : List ℕ) (stack : ℕ) (depths : ℕ → ℕ)
+    (spells : List Spell) (last : ℕ) → AreSpells stack depths spells → AreFolded setting change spells
+    → AreShared flags spells → Each (λ spell. spell.phase ≤ last) spells → AllNear spells
 
 -- at each phase's end the numbers that are printed are 1 to n, each once; along a row, and a word, they never fall
 pub record HaveOrder (spells : List Spell) : Type 0 where

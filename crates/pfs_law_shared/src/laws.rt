@@ -1,10 +1,12 @@
 //! Laws of the definitions.
 
+ghost use Rattle.pfs_law_shared.specs.Answers.{ShownLaw};
+ghost use Rattle.pfs_law_shared.specs.Ends.{EndsLaw};
 ghost use Rattle.pfs_law_shared.specs.Floors.{FlooredLaw};
 ghost use Rattle.pfs_law_shared.specs.Joined.{JoinedLaw};
 ghost use Rattle.pfs_law_shared.specs.Journals.{AgreedLaw, ChainedLaw};
 ghost use Rattle.pfs_law_shared.specs.Labels.{LabelledLaw};
-ghost use Rattle.pfs_law_shared.specs.Order.{NearLaw, OrderedLaw, RisingLaw, ThereLaw};
+ghost use Rattle.pfs_law_shared.specs.Order.{NearbyLaw, NearLaw, OrderedLaw, RisingLaw, ThereLaw};
 ghost use Rattle.pfs_law_shared.specs.Rules.{RuledLaw};
 ghost use Rattle.pfs_law_shared.specs.Shares.{PlainLaw};
 ghost use Rattle.pfs_law_shared.specs.Tickets.{ApartLaw, PlacedLaw, RisenLaw, TicketedLaw};
@@ -127,6 +129,11 @@ pub fn apart()
     ensures { ApartLaw }
 {}
 
+/// The rows and words that sessions of the fold name are there, by what they have in common.
+pub fn nearby()
+    ensures { NearbyLaw }
+{}
+
 /// All together: the labels that sessions at once have in common are those of the printed actions, and their journals
 /// keep the rules of a run.
 pub fn joined()
@@ -134,9 +141,31 @@ pub fn joined()
 {
     apart();
     floored();
+    nearby();
     risen();
     ruled();
     ticketed();
+}
+
+/// What sessions at once answered as they ran, their journals show: by the contents, the labels and the printed flags
+/// of all of them.
+pub fn shown()
+    ensures { ShownLaw }
+{
+    agreed();
+}
+
+/// What is read behind the sessions of a phase, and behind those before them, is final: its tables show what the
+/// journals so far make of rows and words, and its counters what was lost by them.
+pub fn ends()
+    ensures { EndsLaw }
+{
+    agreed();
+    pfs_law_joint::laws::chained();
+    pfs_law_joint::laws::never_fall();
+    pfs_law_joint::laws::same();
+    pfs_law_plain::journals::told();
+    pfs_law_plain::journals::weighed();
 }
 
 /// A plain store that its sessions use one after another gives what they have in common; their calls name its rows and
