@@ -1,0 +1,4 @@
+mod LastPhases
+mod Runs
+mod PhaseSteps
+mod PlacedCalls

@@ -1,0 +1,3 @@
+pub mod Runs
+pub mod Phases
+pub mod Placed
