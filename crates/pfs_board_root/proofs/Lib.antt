@@ -1,0 +1,4 @@
+mod SeatSplits
+mod SeatJoins
+mod PhaseEnds
+mod LaterActors

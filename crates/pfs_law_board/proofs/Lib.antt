@@ -1,0 +1,8 @@
+mod LaterSets
+mod LowSets
+pub mod QuietActors
+mod SharedPhases
+mod LastReleases
+mod EndReadings
+mod Examples
+mod PhaseExamples

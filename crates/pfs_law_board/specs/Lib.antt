@@ -1,0 +1,2 @@
+pub mod PhaseEnds
+pub mod EndReadings
