@@ -1,0 +1,5 @@
+mod PlayedBlocks
+mod BoardActors
+mod NextPhase
+pub mod PlayedSpells
+mod EndReads
