@@ -15,7 +15,7 @@ use pfs_admin::{Admin, Lost, Named, SetupStatement, Truncation, opening_flags};
 use pfs_board::Content;
 use pfs_classes::Setting;
 use pfs_exec::Select;
-use pfs_levels::{Acts, Added, PlainRows, RingPut, Rows};
+use pfs_levels::{Acts, Added, PlainRows, Readable, RingPut, Rows};
 use pfs_matching::Objects;
 use pfs_names::NameId;
 use pfs_rows::Seen;
@@ -31,8 +31,8 @@ pub struct PlainActor<N: Named> {
     rows: PlainRows,
     admin: Admin,
     run: PhantomData<N>,
-    ghost idle: { (row : ℕ) → (⟦<PlainRows as Rows>⟧.seen rows).hand row ≡ None },
-    ghost lent: { (⟦<PlainRows as Rows>⟧.seen rows).words ≡ Some admin.words },
+    ghost idle: { (row : ℕ) → (⟦<PlainRows as Readable>⟧.seen rows).hand row ≡ None },
+    ghost lent: { (⟦<PlainRows as Readable>⟧.seen rows).words ≡ Some admin.words },
 }
 
 impl<N: Named> Drop for PlainActor<N> {
@@ -50,9 +50,9 @@ impl<N: Named> PlainActor<N> {
     pub fn open(alloc: Global, setting: &Setting) -> Result<PlainActor<N>, NoMemory>
         requires setting { N.setting ≡ setting.now }
         ensures opened { IfOk result (λ actor. (start : Opening) → start.flags
-            ≡ opening_flags setting.now opening_objects → (⟦<PlainActor<N> as Rows>⟧.seen actor).reached start []) }
-        ensures left { IfOk result (λ actor. (⟦<PlainActor<N> as Rows>⟧.seen actor).left ≡ 2 ^ 47) }
-        ensures draws { IfOk result (λ actor. (⟦<PlainActor<N> as Rows>⟧.seen actor).draws ≡ 2 ^ 47) }
+            ≡ opening_flags setting.now opening_objects → (⟦<PlainActor<N> as Readable>⟧.seen actor).reached start []) }
+        ensures left { IfOk result (λ actor. (⟦<PlainActor<N> as Readable>⟧.seen actor).left ≡ 2 ^ 47) }
+        ensures draws { IfOk result (λ actor. (⟦<PlainActor<N> as Readable>⟧.seen actor).draws ≡ 2 ^ 47) }
     {
         let objects = Objects::open(alloc)?;
         let flags = opening_flags(alloc, setting, &objects)?;
@@ -66,25 +66,15 @@ impl<N: Named> PlainActor<N> {
     /// What found no place so far, by the labels of the actions that were done.
     pub fn lost(&self) -> Lost
         ensures { (start : Opening) → (calls : List Call)
-            → (⟦<PlainActor<N> as Rows>⟧.seen self.now).reached start calls
+            → (⟦<PlainActor<N> as Readable>⟧.seen self.now).reached start calls
             → result ≡ lost_in (state_of N.setting N.change (labels_after calls)).kept.now }
     {
         self.admin.lost()
     }
 }
 
-impl<N: Named> Rows for PlainActor<N> {
-    ghost seen = { λ s. between N.setting N.change (⟦<PlainRows as Rows>⟧.seen s.rows) s.admin };
-
-    #[inline(always)]
-    fn add_try(&mut self, row: u64, amount: &Stat) -> Added {
-        self.rows.add_try(row, amount)
-    }
-
-    #[inline(always)]
-    fn ring_try(&mut self, row: u64, content: &Content) -> RingPut {
-        self.rows.ring_try(row, content)
-    }
+impl<N: Named> Readable for PlainActor<N> {
+    ghost seen = { λ s. between N.setting N.change (⟦<PlainRows as Readable>⟧.seen s.rows) s.admin };
 
     fn read(&mut self, row: u64) -> Seen {
         self.rows.read(row)
@@ -93,6 +83,18 @@ impl<N: Named> Rows for PlainActor<N> {
     #[inline(always)]
     fn load(&mut self, word: u64) -> (u64, u16) {
         self.rows.load(word)
+    }
+}
+
+impl<N: Named> Rows for PlainActor<N> {
+    #[inline(always)]
+    fn add_try(&mut self, row: u64, amount: &Stat) -> Added {
+        self.rows.add_try(row, amount)
+    }
+
+    #[inline(always)]
+    fn ring_try(&mut self, row: u64, content: &Content) -> RingPut {
+        self.rows.ring_try(row, content)
     }
 
     fn ticket(&mut self, kind: u64) -> u64 {

@@ -13,7 +13,7 @@ use crate::desk::{Desk, Shared};
 use pfs_admin::Placed;
 use pfs_board::Label;
 use pfs_board_store::{BoardHold, BoardRows};
-use pfs_levels::{Log, Rows};
+use pfs_levels::{Log, Readable};
 use pfs_names::NameId;
 use std::sync::Wait;
 
@@ -25,15 +25,15 @@ pub fn empty_action<'a, R: Wait, N: Shared>(
     label: Label,
 ) -> u64
     requires named { N.change label ≡ Setup Show }
-    requires alone { (r : ℕ) → (⟦<BoardRows<'a, Desk<N>> as Rows>⟧.seen rows.old).hand r ≡ None }
-    requires room { 0 < (⟦<BoardRows<'a, Desk<N>> as Rows>⟧.seen rows.old).left }
+    requires alone { (r : ℕ) → (⟦<BoardRows<'a, Desk<N>> as Readable>⟧.seen rows.old).hand r ≡ None }
+    requires room { 0 < (⟦<BoardRows<'a, Desk<N>> as Readable>⟧.seen rows.old).left }
     requires begun { (start : Opening) × (calls : List Call)
-        × (⟦<BoardRows<'a, Desk<N>> as Rows>⟧.seen rows.old).reached start calls }
+        × (⟦<BoardRows<'a, Desk<N>> as Readable>⟧.seen rows.old).reached start calls }
     ensures call { (start : Opening) → (calls : List Call)
-        → (⟦<BoardRows<'a, Desk<N>> as Rows>⟧.seen rows.old).reached start calls → (labels : List Label)
+        → (⟦<BoardRows<'a, Desk<N>> as Readable>⟧.seen rows.old).reached start calls → (labels : List Label)
         × ((result ≡ length labels + 1)
-        × (⟦<BoardRows<'a, Desk<N>> as Rows>⟧.seen rows.new).reached start (Leaves ∷ Enters label labels ∷ calls)) }
-    ensures hand { (r : ℕ) → (⟦<BoardRows<'a, Desk<N>> as Rows>⟧.seen rows.new).hand r ≡ None }
+        × (⟦<BoardRows<'a, Desk<N>> as Readable>⟧.seen rows.new).reached start (Leaves ∷ Enters label labels ∷ calls)) }
+    ensures hand { (r : ℕ) → (⟦<BoardRows<'a, Desk<N>> as Readable>⟧.seen rows.new).hand r ≡ None }
 {
     let (number, desk) = rows.enter(rt, label);
     let (mut admin, writer) = desk.into_parts();
@@ -56,20 +56,20 @@ pub fn connect<'a, R: Wait, N: Shared>(
     requires named { N.change label ≡ Connect user host }
     requires user { user < length N.setting.names }
     requires host { host < length N.setting.names }
-    requires alone { (r : ℕ) → (⟦<BoardRows<'a, Desk<N>> as Rows>⟧.seen rows).hand r ≡ None }
-    requires spare { 5 ≤ (⟦<BoardRows<'a, Desk<N>> as Rows>⟧.seen rows).left }
+    requires alone { (r : ℕ) → (⟦<BoardRows<'a, Desk<N>> as Readable>⟧.seen rows).hand r ≡ None }
+    requires spare { 5 ≤ (⟦<BoardRows<'a, Desk<N>> as Readable>⟧.seen rows).left }
     requires room { 6 ≤ log.old.room }
     requires begun { (start : Opening) × (calls : List Call)
-        × ((⟦<BoardRows<'a, Desk<N>> as Rows>⟧.seen rows).reached start calls) × (start.switches.table ≡ N.switches) }
+        × ((⟦<BoardRows<'a, Desk<N>> as Readable>⟧.seen rows).reached start calls) × (start.switches.table ≡ N.switches) }
     ensures acted { (start : Opening) → (calls : List Call)
-        → (⟦<BoardRows<'a, Desk<N>> as Rows>⟧.seen rows.entry).reached start calls → (more : List Call)
-        × (admin : State) × ((⟦<BoardRows<'a, Desk<N>> as Rows>⟧.seen result.0).reached start more) × HasActed
+        → (⟦<BoardRows<'a, Desk<N>> as Readable>⟧.seen rows.entry).reached start calls → (more : List Call)
+        × (admin : State) × ((⟦<BoardRows<'a, Desk<N>> as Readable>⟧.seen result.0).reached start more) × HasActed
         N.setting N.change label (λ s. work_of_connect s label.session user host)
         (λ s. connect_entry (s.actions + 1) (seat_at s label.session user host) ∷ []) admin calls more log.old.entries
         log.new.entries × (result.1 ≡ placed_of (seat_at admin label.session user host)) }
-    ensures hand { (r : ℕ) → (⟦<BoardRows<'a, Desk<N>> as Rows>⟧.seen result.0).hand r ≡ None }
-    ensures left { (⟦<BoardRows<'a, Desk<N>> as Rows>⟧.seen rows.entry).left
-        ≤ (⟦<BoardRows<'a, Desk<N>> as Rows>⟧.seen result.0).left + 5 }
+    ensures hand { (r : ℕ) → (⟦<BoardRows<'a, Desk<N>> as Readable>⟧.seen result.0).hand r ≡ None }
+    ensures left { (⟦<BoardRows<'a, Desk<N>> as Readable>⟧.seen rows.entry).left
+        ≤ (⟦<BoardRows<'a, Desk<N>> as Readable>⟧.seen result.0).left + 5 }
 {
     let mut rows = rows;
     let (_, desk) = rows.enter(rt, label);

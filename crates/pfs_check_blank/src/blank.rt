@@ -4,7 +4,7 @@ ghost use Rattle.std.specs.Prelude.{◌≡◌, Some, length};
 ghost use Rattle.pfs_check_blank.specs.BlankStores.{AllFound, hand_at};
 
 use pfs_board::Content;
-use pfs_levels::{Added, Hold, RingPut, Rows, Word};
+use pfs_levels::{Added, Hold, Readable, RingPut, Rows, Word};
 use pfs_rows::Seen;
 use pfs_stat::Stat;
 
@@ -20,7 +20,7 @@ pub struct Blank {
     ghost wide: { (length words.items ≡ 160) × (length taken.items ≡ 14242) },
 }
 
-impl Rows for Blank {
+impl Readable for Blank {
     ghost seen = { λ s. record {
       reached = λ start calls. AllFound calls;
       hand = λ row. hand_at s.taken.items row;
@@ -30,6 +30,18 @@ impl Rows for Blank {
       name = 0;
     } };
 
+    fn read(&mut self, row: u64) -> Seen {
+        let _ = row;
+        Seen::Free { word: 0 }
+    }
+
+    fn load(&mut self, word: u64) -> (u64, u16) {
+        let found = self.words[word as usize];
+        (found.version, found.flags)
+    }
+}
+
+impl Rows for Blank {
     fn add_try(&mut self, row: u64, amount: &Stat) -> Added {
         let _ = amount;
         Added::Counted { row, version: 1 }
@@ -39,16 +51,6 @@ impl Rows for Blank {
         let _ = row;
         let _ = content;
         RingPut::Done { version: 1 }
-    }
-
-    fn read(&mut self, row: u64) -> Seen {
-        let _ = row;
-        Seen::Free { word: 0 }
-    }
-
-    fn load(&mut self, word: u64) -> (u64, u16) {
-        let found = self.words[word as usize];
-        (found.version, found.flags)
     }
 
     fn ticket(&mut self, kind: u64) -> u64 {

@@ -8,7 +8,7 @@ ghost use Rattle.pfs_finals.specs.Finals as spec;
 use crate::NoMemory;
 use pfs_classes::Setting;
 use pfs_journal::{TableList, TableReport};
-use pfs_levels::Rows;
+use pfs_levels::Readable;
 use pfs_reader::read_table;
 use pfs_rows::{EventTable, Reading, SummaryTable, Table, TableKind};
 use pfs_tables::listed;
@@ -147,7 +147,7 @@ fn add_table(
 }
 
 // Reads a table and puts it behind the others, where it has rows.
-fn put_table<R: Rows>(
+fn put_table<R: Readable>(
     alloc: Global,
     setting: &Setting,
     table: Table,
@@ -170,7 +170,7 @@ fn put_table<R: Rows>(
 /// summary without the rows whose COUNT_STAR is 0. A table without rows is left out. These rules are our own. The
 /// tables are read one after another, and nothing else is asked of the store. Out of memory the tables before one were
 /// read, of that one some of the first readings were made, and nothing else was; no row is in hand but what was.
-pub fn final_tables<R: Rows>(
+pub fn final_tables<R: Readable>(
     alloc: Global,
     setting: &Setting,
     rows: &mut R,

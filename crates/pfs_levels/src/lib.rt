@@ -17,7 +17,7 @@ pub use pfs_board::{Content, Label};
 pub use pfs_event::Log;
 pub use places::{Level, NumberList, Places, Targets, Up, UpList};
 pub use plain::PlainRows;
-pub use store::{Acts, Hold, Rows};
+pub use store::{Acts, Hold, Readable, Rows};
 
 /// Memory ran out.
 pub type NoMemory = std::alloc::AllocError;

@@ -7,7 +7,7 @@ ghost use Rattle.pfs_levels.specs.PlainStore.{IsAt, HasRoom, slot_at, in_hand, w
 use crate::NoMemory;
 use crate::answers::{Added, RingPut, Word};
 use crate::slots::Slots;
-use crate::store::{Acts, Hold, Rows};
+use crate::store::{Acts, Hold, Readable, Rows};
 use pfs_board::{Content, Label};
 use pfs_rows::{LONG_HISTORY, Seen};
 use pfs_stat::Stat;
@@ -34,7 +34,7 @@ pub struct PlainRows {
     ghost room: { HasRoom left draws slots words.items tickets },
 }
 
-impl Rows for PlainRows {
+impl Readable for PlainRows {
     ghost seen = { λ s. record {
       reached = λ start calls. IsAt s.slots s.words.items s.tickets start.flags calls;
       hand = λ row. in_hand (slot_at s.slots row);
@@ -44,6 +44,24 @@ impl Rows for PlainRows {
       name = 0;
     } };
 
+    fn read(&mut self, row: u64) -> Seen {
+        let at = row as usize;
+        let version = self.slots.version(at);
+        if self.slots.is_allocated(at) {
+            let content = *self.slots.content(at);
+            Seen::Whole { version, content }
+        } else {
+            Seen::Free { word: 4 * version }
+        }
+    }
+
+    fn load(&mut self, word: u64) -> (u64, u16) {
+        let found = self.words[word as usize];
+        (found.version, found.flags)
+    }
+}
+
+impl Rows for PlainRows {
     #[inline(always)]
     fn add_try(&mut self, row: u64, amount: &Stat) -> Added {
         let at = row as usize;
@@ -68,22 +86,6 @@ impl Rows for PlainRows {
         self.slots.publish(at, content);
         self.left -= 1;
         RingPut::Done { version }
-    }
-
-    fn read(&mut self, row: u64) -> Seen {
-        let at = row as usize;
-        let version = self.slots.version(at);
-        if self.slots.is_allocated(at) {
-            let content = *self.slots.content(at);
-            Seen::Whole { version, content }
-        } else {
-            Seen::Free { word: 4 * version }
-        }
-    }
-
-    fn load(&mut self, word: u64) -> (u64, u16) {
-        let found = self.words[word as usize];
-        (found.version, found.flags)
     }
 
     fn ticket(&mut self, kind: u64) -> u64 {
@@ -147,12 +149,12 @@ impl PlainRows {
     pub fn new(alloc: Global, flags: &[u16]) -> Result<PlainRows, NoMemory>
         requires { length flags.now ≡ 160 }
         ensures opened { IfOk result (λ rows. (start : Opening) → start.flags ≡ flags.now
-            → (⟦<PlainRows as Rows>⟧.seen rows).reached start []) }
-        ensures left { IfOk result (λ rows. (⟦<PlainRows as Rows>⟧.seen rows).left ≡ 2 ^ 47) }
-        ensures draws { IfOk result (λ rows. (⟦<PlainRows as Rows>⟧.seen rows).draws ≡ 2 ^ 47) }
-        ensures hand { IfOk result (λ rows. (r : ℕ) → (⟦<PlainRows as Rows>⟧.seen rows).hand r ≡ None) }
-        ensures words { IfOk result (λ rows. (⟦<PlainRows as Rows>⟧.seen rows).words ≡ Some (map (word 0) flags.now)) }
-        ensures versions { IfOk result (λ rows. (at : ℕ) → known_version (⟦<PlainRows as Rows>⟧.seen rows).words at
+            → (⟦<PlainRows as Readable>⟧.seen rows).reached start []) }
+        ensures left { IfOk result (λ rows. (⟦<PlainRows as Readable>⟧.seen rows).left ≡ 2 ^ 47) }
+        ensures draws { IfOk result (λ rows. (⟦<PlainRows as Readable>⟧.seen rows).draws ≡ 2 ^ 47) }
+        ensures hand { IfOk result (λ rows. (r : ℕ) → (⟦<PlainRows as Readable>⟧.seen rows).hand r ≡ None) }
+        ensures words { IfOk result (λ rows. (⟦<PlainRows as Readable>⟧.seen rows).words ≡ Some (map (word 0) flags.now)) }
+        ensures versions { IfOk result (λ rows. (at : ℕ) → known_version (⟦<PlainRows as Readable>⟧.seen rows).words at
             ≡ 0) }
     {
         let slots = Slots::opening(alloc)?;

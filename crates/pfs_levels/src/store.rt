@@ -9,35 +9,14 @@ use pfs_board::{Content, Label};
 use pfs_rows::Seen;
 use pfs_stat::Stat;
 
-/// The store as an actor sees it that records or reads. No call waits for anybody or takes memory.
+/// The store as one sees it that reads it. No call waits for anybody, takes memory, or changes a row.
 ///
 /// What a store is to a proof is `seen`. Its first field, `reached`, says which calls, each with its arguments and its
 /// answer, may have led to it, and each call carries any such list on by itself. A frame goes with it: the rows in
 /// hand, the publications and draws that are left, the words that are known, and the store's name.
-pub trait Rows {
+pub trait Readable {
     /// All that contracts see of it.
     ghost seen: { Self → Store };
-
-    /// Merges an amount into a cell or a digest row. Held comes only where another actor had the row in hand, which
-    /// its two lock words show; then nothing was added.
-    fn add_try(&mut self, row: u64, amount: &Stat) -> Added
-        requires cell { IsCell row }
-        requires away { (seen self.old).hand row ≡ None }
-        requires room { 0 < (seen self.old).left }
-        ensures call { Goes (seen self.old).reached (seen self.new).reached (Adds row amount.now result ∷ []) }
-        ensures row { row_in result ≡ row }
-        ensures kept { Kept 1 0 (seen self.old) (seen self.new) };
-
-    /// Writes an event to a ring place, or to the long place of its ticket. Busy comes only where another actor had
-    /// the row in hand, and Late exactly where the row holds the greater ticket given, in the long history alone;
-    /// then nothing was written.
-    fn ring_try(&mut self, row: u64, content: &Content) -> RingPut
-        requires ring { IsRing row content.now }
-        requires away { (seen self.old).hand row ≡ None }
-        requires room { 0 < (seen self.old).left }
-        ensures call { Goes (seen self.old).reached (seen self.new).reached (Rings row content.now result ∷ []) }
-        ensures late { IsLate row content.now result }
-        ensures kept { Kept 1 0 (seen self.old) (seen self.new) };
 
     /// Reads a row whole, or says that it is free or in another actor's hand.
     fn read(&mut self, row: u64) -> Seen
@@ -51,15 +30,41 @@ pub trait Rows {
         requires { word < 160 }
         ensures call { Goes (seen self.old).reached (seen self.new).reached (Loads word result.0 result.1 ∷ []) }
         ensures kept { Same (seen self.old) (seen self.new) };
+}
+
+/// The store as an actor sees it that records and reads. No call waits for anybody or takes memory.
+pub trait Rows: Readable {
+    /// Merges an amount into a cell or a digest row. Held comes only where another actor had the row in hand, which
+    /// its two lock words show; then nothing was added.
+    fn add_try(&mut self, row: u64, amount: &Stat) -> Added
+        requires cell { IsCell row }
+        requires away { (Self.seen self.old).hand row ≡ None }
+        requires room { 0 < (Self.seen self.old).left }
+        ensures call { Goes (Self.seen self.old).reached (Self.seen self.new).reached
+            (Adds row amount.now result ∷ []) }
+        ensures row { row_in result ≡ row }
+        ensures kept { Kept 1 0 (Self.seen self.old) (Self.seen self.new) };
+
+    /// Writes an event to a ring place, or to the long place of its ticket. Busy comes only where another actor had
+    /// the row in hand, and Late exactly where the row holds the greater ticket given, in the long history alone;
+    /// then nothing was written.
+    fn ring_try(&mut self, row: u64, content: &Content) -> RingPut
+        requires ring { IsRing row content.now }
+        requires away { (Self.seen self.old).hand row ≡ None }
+        requires room { 0 < (Self.seen self.old).left }
+        ensures call { Goes (Self.seen self.old).reached (Self.seen self.new).reached
+            (Rings row content.now result ∷ []) }
+        ensures late { IsLate row content.now result }
+        ensures kept { Kept 1 0 (Self.seen self.old) (Self.seen self.new) };
 
     /// Draws the next ticket of a kind.
     fn ticket(&mut self, kind: u64) -> u64
         requires known { kind < 4 }
-        requires room { 0 < (seen self.old).draws }
-        ensures call { Goes (seen self.old).reached (seen self.new).reached (Draws kind result ∷ []) }
+        requires room { 0 < (Self.seen self.old).draws }
+        ensures call { Goes (Self.seen self.old).reached (Self.seen self.new).reached (Draws kind result ∷ []) }
         ensures small { result < 2 ^ 47 }
-        ensures left { (seen self.new).left ≡ (seen self.old).left }
-        ensures kept { Kept 0 1 (seen self.old) (seen self.new) };
+        ensures left { (Self.seen self.new).left ≡ (Self.seen self.old).left }
+        ensures kept { Kept 0 1 (Self.seen self.old) (Self.seen self.new) };
 }
 
 /// What an actor may do besides inside an action, and as it pauses: it holds rows, and sets words.

@@ -13,7 +13,7 @@ ghost use Rattle.pfs_reader.specs.Readings.{call_of, calls_of, IsThere, HoldsNon
 
 use crate::{NoMemory, ReadingList};
 use pfs_classes::Setting;
-use pfs_levels::Rows;
+use pfs_levels::Readable;
 use pfs_readsets::{ReadSet, Target};
 use pfs_rows::{Reading, Table};
 use std::alloc::Global;
@@ -49,7 +49,7 @@ impl Reader {
 
     /// The next reading of the read set, by one call of the store: a row as it was found, or a switch word with its
     /// version and flags. None exactly where the readings so far are the whole read set; then the store isn't called.
-    pub fn next<R: Rows>(&mut self, rows: &mut R) -> Option<Reading>
+    pub fn next<R: Readable>(&mut self, rows: &mut R) -> Option<Reading>
         requires away { HoldsNone (R.seen rows.old).hand }
         ensures next { (scope : Scope) (table : Table) (readings : List Reading)
             → Reached self.old scope table readings
@@ -73,7 +73,7 @@ impl Reader {
 }
 
 // Reads a row, or loads a word.
-fn read_target<R: Rows>(rows: &mut R, target: Target) -> Reading
+fn read_target<R: Readable>(rows: &mut R, target: Target) -> Reading
     requires there { IsThere target }
     requires away { HoldsNone (R.seen rows.old).hand }
     ensures target { target_of result ≡ target }
@@ -98,7 +98,7 @@ fn read_target<R: Rows>(rows: &mut R, target: Target) -> Reading
 
 /// All readings of a table's read set, each by one call of the store, in their order. Out of memory some of the
 /// first were made, and no others.
-pub fn read_table<R: Rows>(
+pub fn read_table<R: Readable>(
     alloc: Global,
     setting: &Setting,
     table: Table,

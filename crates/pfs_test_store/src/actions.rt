@@ -14,7 +14,7 @@ use pfs_admin::{Admin, Reply, Truncation};
 use pfs_board::Label;
 use pfs_board_store::{BoardHold, BoardRows};
 use pfs_event::EventKind;
-use pfs_levels::{Added, Log, Rows};
+use pfs_levels::{Added, Log, Readable};
 use pfs_model::Subject;
 use pfs_names::NameId;
 use pfs_rows::Seen;
@@ -40,19 +40,19 @@ fn begin<'a, 'b, R: Wait>(
     rows: BoardRows<'b, Anything>,
     writer: Writer,
 ) -> BoardHold<'a, 'b, R, Anything>
-    requires begun { IsBegun (⟦<BoardRows<'b, Anything> as Rows>⟧.seen rows).reached writer.switches }
+    requires begun { IsBegun (⟦<BoardRows<'b, Anything> as Readable>⟧.seen rows).reached writer.switches }
     requires wide { 160 ≤ length writer.view.seen }
-    requires idle { IsIdle (⟦<BoardRows<'b, Anything> as Rows>⟧.seen rows).hand }
-    requires spare { 1 ≤ (⟦<BoardRows<'b, Anything> as Rows>⟧.seen rows).left }
+    requires idle { IsIdle (⟦<BoardRows<'b, Anything> as Readable>⟧.seen rows).hand }
+    requires spare { 1 ≤ (⟦<BoardRows<'b, Anything> as Readable>⟧.seen rows).left }
     ensures begun { (start : Opening) × (calls : List Call)
-        × ((⟦<BoardHold<'a, 'b, R, Anything> as Rows>⟧.seen result).reached start calls) }
-    ensures inside { IsSome ((⟦<BoardHold<'a, 'b, R, Anything> as Rows>⟧.seen result).hand 0) }
-    ensures alone { (r : ℕ) → 0 < r → (⟦<BoardHold<'a, 'b, R, Anything> as Rows>⟧.seen result).hand r ≡ None }
-    ensures lent { (⟦<BoardHold<'a, 'b, R, Anything> as Rows>⟧.seen result).words ≡ Some (words_of writer.view) }
-    ensures left { (⟦<BoardRows<'b, Anything> as Rows>⟧.seen rows.entry).left
-        ≤ (⟦<BoardHold<'a, 'b, R, Anything> as Rows>⟧.seen result).left + 1 }
-    ensures draws { (⟦<BoardHold<'a, 'b, R, Anything> as Rows>⟧.seen result).draws
-        ≡ (⟦<BoardRows<'b, Anything> as Rows>⟧.seen rows.entry).draws }
+        × ((⟦<BoardHold<'a, 'b, R, Anything> as Readable>⟧.seen result).reached start calls) }
+    ensures inside { IsSome ((⟦<BoardHold<'a, 'b, R, Anything> as Readable>⟧.seen result).hand 0) }
+    ensures alone { (r : ℕ) → 0 < r → (⟦<BoardHold<'a, 'b, R, Anything> as Readable>⟧.seen result).hand r ≡ None }
+    ensures lent { (⟦<BoardHold<'a, 'b, R, Anything> as Readable>⟧.seen result).words ≡ Some (words_of writer.view) }
+    ensures left { (⟦<BoardRows<'b, Anything> as Readable>⟧.seen rows.entry).left
+        ≤ (⟦<BoardHold<'a, 'b, R, Anything> as Readable>⟧.seen result).left + 1 }
+    ensures draws { (⟦<BoardHold<'a, 'b, R, Anything> as Readable>⟧.seen result).draws
+        ≡ (⟦<BoardRows<'b, Anything> as Readable>⟧.seen rows.entry).draws }
 {
     let mut rows = rows;
     let label = Label {
@@ -68,18 +68,18 @@ fn finish<'a, 'b, R: Wait>(
     hold: BoardHold<'a, 'b, R, Anything>,
 ) -> (BoardRows<'b, Anything>, Writer)
     requires begun { (start : Opening) × (calls : List Call)
-        × ((⟦<BoardHold<'a, 'b, R, Anything> as Rows>⟧.seen hold).reached start calls) }
-    requires inside { IsSome ((⟦<BoardHold<'a, 'b, R, Anything> as Rows>⟧.seen hold).hand 0) }
-    requires alone { (r : ℕ) → 0 < r → (⟦<BoardHold<'a, 'b, R, Anything> as Rows>⟧.seen hold).hand r ≡ None }
-    requires lent { IsSome (⟦<BoardHold<'a, 'b, R, Anything> as Rows>⟧.seen hold).words }
-    ensures begun { IsBegun (⟦<BoardRows<'b, Anything> as Rows>⟧.seen result.0).reached result.1.switches }
+        × ((⟦<BoardHold<'a, 'b, R, Anything> as Readable>⟧.seen hold).reached start calls) }
+    requires inside { IsSome ((⟦<BoardHold<'a, 'b, R, Anything> as Readable>⟧.seen hold).hand 0) }
+    requires alone { (r : ℕ) → 0 < r → (⟦<BoardHold<'a, 'b, R, Anything> as Readable>⟧.seen hold).hand r ≡ None }
+    requires lent { IsSome (⟦<BoardHold<'a, 'b, R, Anything> as Readable>⟧.seen hold).words }
+    ensures begun { IsBegun (⟦<BoardRows<'b, Anything> as Readable>⟧.seen result.0).reached result.1.switches }
     ensures wide { 160 ≤ length result.1.view.seen }
-    ensures idle { IsIdle (⟦<BoardRows<'b, Anything> as Rows>⟧.seen result.0).hand }
-    ensures lent { Some (words_of result.1.view) ≡ (⟦<BoardHold<'a, 'b, R, Anything> as Rows>⟧.seen hold.entry).words }
-    ensures left { (⟦<BoardRows<'b, Anything> as Rows>⟧.seen result.0).left
-        ≡ (⟦<BoardHold<'a, 'b, R, Anything> as Rows>⟧.seen hold.entry).left }
-    ensures draws { (⟦<BoardRows<'b, Anything> as Rows>⟧.seen result.0).draws
-        ≡ (⟦<BoardHold<'a, 'b, R, Anything> as Rows>⟧.seen hold.entry).draws }
+    ensures idle { IsIdle (⟦<BoardRows<'b, Anything> as Readable>⟧.seen result.0).hand }
+    ensures lent { Some (words_of result.1.view) ≡ (⟦<BoardHold<'a, 'b, R, Anything> as Readable>⟧.seen hold.entry).words }
+    ensures left { (⟦<BoardRows<'b, Anything> as Readable>⟧.seen result.0).left
+        ≡ (⟦<BoardHold<'a, 'b, R, Anything> as Readable>⟧.seen hold.entry).left }
+    ensures draws { (⟦<BoardRows<'b, Anything> as Readable>⟧.seen result.0).draws
+        ≡ (⟦<BoardHold<'a, 'b, R, Anything> as Readable>⟧.seen hold.entry).draws }
 {
     let (mut rows, lent) = hold.into_parts();
     rows.leave(Anything {});
@@ -97,21 +97,21 @@ pub(crate) fn connect<'b, R: Wait>(
     session: &mut Session,
     admin: &mut Admin,
 ) -> (BoardRows<'b, Anything>, Writer)
-    requires between { IsBetween (⟦<BoardRows<'b, Anything> as Rows>⟧.seen rows) writer admin.old }
+    requires between { IsBetween (⟦<BoardRows<'b, Anything> as Readable>⟧.seen rows) writer admin.old }
     requires few { admin.old.actions ≡ 0 }
     requires names { 2 ≤ length admin.old.names }
     requires first { (session.old.state.actions ≡ 0) × (session.old.state.place ≡ no_place) }
     requires closed { session.old.state.opened ≡ record { depth = 1; events = [] } }
-    requires affords { Affords 5 0 6 (⟦<BoardRows<'b, Anything> as Rows>⟧.seen rows) session.old.journal }
-    ensures between { IsBetween (⟦<BoardRows<'b, Anything> as Rows>⟧.seen result.0) result.1 admin.new }
+    requires affords { Affords 5 0 6 (⟦<BoardRows<'b, Anything> as Readable>⟧.seen rows) session.old.journal }
+    ensures between { IsBetween (⟦<BoardRows<'b, Anything> as Readable>⟧.seen result.0) result.1 admin.new }
     ensures actions { (admin.new.actions ≡ 1) × (session.new.state.actions ≡ 1) }
     ensures drawn { session.new.state.drawn ≡ session.old.state.drawn }
     ensures closed { session.new.state.opened ≡ record { depth = 1; events = [] } }
     ensures owed { length (owed_by_state session.new.state) ≡ 0 }
-    ensures left { (⟦<BoardRows<'b, Anything> as Rows>⟧.seen rows.entry).left
-        ≤ (⟦<BoardRows<'b, Anything> as Rows>⟧.seen result.0).left + 5 }
-    ensures draws { (⟦<BoardRows<'b, Anything> as Rows>⟧.seen result.0).draws
-        ≡ (⟦<BoardRows<'b, Anything> as Rows>⟧.seen rows.entry).draws }
+    ensures left { (⟦<BoardRows<'b, Anything> as Readable>⟧.seen rows.entry).left
+        ≤ (⟦<BoardRows<'b, Anything> as Readable>⟧.seen result.0).left + 5 }
+    ensures draws { (⟦<BoardRows<'b, Anything> as Readable>⟧.seen result.0).draws
+        ≡ (⟦<BoardRows<'b, Anything> as Readable>⟧.seen rows.entry).draws }
     ensures room { session.old.journal.room ≤ session.new.journal.room + 6 }
 {
     let mut hold = begin(rt, rows, writer);
@@ -127,18 +127,18 @@ pub(crate) fn quit<'b, R: Wait>(
     session: &mut Session,
     admin: &mut Admin,
 ) -> (BoardRows<'b, Anything>, Writer)
-    requires begun { IsBegun (⟦<BoardRows<'b, Anything> as Rows>⟧.seen rows).reached writer.switches }
+    requires begun { IsBegun (⟦<BoardRows<'b, Anything> as Readable>⟧.seen rows).reached writer.switches }
     requires wide { 160 ≤ length writer.view.seen }
-    requires idle { IsIdle (⟦<BoardRows<'b, Anything> as Rows>⟧.seen rows).hand }
+    requires idle { IsIdle (⟦<BoardRows<'b, Anything> as Readable>⟧.seen rows).hand }
     requires lent { Some (words_of writer.view) ≡ Some admin.old.words }
     requires actions { (admin.old.actions ≡ 1) × (session.old.state.actions ≡ 1) }
     requires closed { session.old.state.opened ≡ record { depth = 1; events = [] } }
     requires owed { length (owed_by_state session.old.state) ≡ 0 }
-    requires spare { 253 ≤ (⟦<BoardRows<'b, Anything> as Rows>⟧.seen rows).left }
+    requires spare { 253 ≤ (⟦<BoardRows<'b, Anything> as Readable>⟧.seen rows).left }
     requires room { 255 ≤ session.old.journal.room }
-    ensures begun { IsBegun (⟦<BoardRows<'b, Anything> as Rows>⟧.seen result.0).reached result.1.switches }
+    ensures begun { IsBegun (⟦<BoardRows<'b, Anything> as Readable>⟧.seen result.0).reached result.1.switches }
     ensures wide { 160 ≤ length result.1.view.seen }
-    ensures idle { IsIdle (⟦<BoardRows<'b, Anything> as Rows>⟧.seen result.0).hand }
+    ensures idle { IsIdle (⟦<BoardRows<'b, Anything> as Readable>⟧.seen result.0).hand }
     ensures lent { Some (words_of result.1.view) ≡ Some admin.new.words }
 {
     let mut hold = begin(rt, rows, writer);
@@ -155,18 +155,18 @@ pub(crate) fn truncate<'b, R: Wait>(
     admin: &mut Admin,
     what: Truncation,
 ) -> (BoardRows<'b, Anything>, Writer, Reply)
-    requires begun { IsBegun (⟦<BoardRows<'b, Anything> as Rows>⟧.seen rows).reached writer.switches }
+    requires begun { IsBegun (⟦<BoardRows<'b, Anything> as Readable>⟧.seen rows).reached writer.switches }
     requires wide { 160 ≤ length writer.view.seen }
-    requires idle { IsIdle (⟦<BoardRows<'b, Anything> as Rows>⟧.seen rows).hand }
+    requires idle { IsIdle (⟦<BoardRows<'b, Anything> as Readable>⟧.seen rows).hand }
     requires lent { Some (words_of writer.view) ≡ Some admin.old.words }
     requires actions { (admin.old.actions ≡ 1) × (session.old.state.actions ≡ 1) }
     requires owed { length (owed_by_state session.old.state) ≤ 2 }
     requires cost { truncation_cost admin.old what ≤ 200 }
-    requires spare { 203 ≤ (⟦<BoardRows<'b, Anything> as Rows>⟧.seen rows).left }
+    requires spare { 203 ≤ (⟦<BoardRows<'b, Anything> as Readable>⟧.seen rows).left }
     requires room { 205 ≤ session.old.journal.room }
-    ensures begun { IsBegun (⟦<BoardRows<'b, Anything> as Rows>⟧.seen result.0).reached result.1.switches }
+    ensures begun { IsBegun (⟦<BoardRows<'b, Anything> as Readable>⟧.seen result.0).reached result.1.switches }
     ensures wide { 160 ≤ length result.1.view.seen }
-    ensures idle { IsIdle (⟦<BoardRows<'b, Anything> as Rows>⟧.seen result.0).hand }
+    ensures idle { IsIdle (⟦<BoardRows<'b, Anything> as Readable>⟧.seen result.0).hand }
     ensures lent { Some (words_of result.1.view) ≡ Some admin.new.words }
 {
     let mut hold = begin(rt, rows, writer);
@@ -189,20 +189,20 @@ pub(crate) fn wait<'b>(
     writer: &Writer,
     session: &mut Session,
 ) -> Option<Added>
-    requires begun { IsBegun (⟦<BoardRows<'b, Anything> as Rows>⟧.seen rows.old).reached writer.now.switches }
-    requires idle { IsIdle (⟦<BoardRows<'b, Anything> as Rows>⟧.seen rows.old).hand }
+    requires begun { IsBegun (⟦<BoardRows<'b, Anything> as Readable>⟧.seen rows.old).reached writer.now.switches }
+    requires idle { IsIdle (⟦<BoardRows<'b, Anything> as Readable>⟧.seen rows.old).hand }
     requires closed { session.old.state.opened ≡ record { depth = 1; events = [] } }
     requires early { session.old.state.drawn ≡ 0 }
     requires owed { length (owed_by_state session.old.state) ≡ 0 }
-    requires spare { 6 ≤ (⟦<BoardRows<'b, Anything> as Rows>⟧.seen rows.old).left }
-    requires tickets { 1 ≤ (⟦<BoardRows<'b, Anything> as Rows>⟧.seen rows.old).draws }
+    requires spare { 6 ≤ (⟦<BoardRows<'b, Anything> as Readable>⟧.seen rows.old).left }
+    requires tickets { 1 ≤ (⟦<BoardRows<'b, Anything> as Readable>⟧.seen rows.old).draws }
     requires room { 8 ≤ session.old.journal.room }
-    ensures begun { IsBegun (⟦<BoardRows<'b, Anything> as Rows>⟧.seen rows.new).reached writer.now.switches }
-    ensures idle { IsIdle (⟦<BoardRows<'b, Anything> as Rows>⟧.seen rows.new).hand }
+    ensures begun { IsBegun (⟦<BoardRows<'b, Anything> as Readable>⟧.seen rows.new).reached writer.now.switches }
+    ensures idle { IsIdle (⟦<BoardRows<'b, Anything> as Readable>⟧.seen rows.new).hand }
     ensures actions { session.new.state.actions ≡ session.old.state.actions }
     ensures owed { length (owed_by_state session.new.state) ≤ 2 }
-    ensures left { (⟦<BoardRows<'b, Anything> as Rows>⟧.seen rows.old).left
-        ≤ (⟦<BoardRows<'b, Anything> as Rows>⟧.seen rows.new).left + 6 }
+    ensures left { (⟦<BoardRows<'b, Anything> as Readable>⟧.seen rows.old).left
+        ≤ (⟦<BoardRows<'b, Anything> as Readable>⟧.seen rows.new).left + 6 }
     ensures room { session.old.journal.room ≤ session.new.journal.room + 8 }
 {
     let binlog = Subject {
@@ -224,11 +224,11 @@ pub(crate) fn pause<'b, R: Wait>(
     rows: BoardRows<'b, Anything>,
     session: Session,
 ) -> (BoardRows<'b, Anything>, Log)
-    requires idle { IsIdle (⟦<BoardRows<'b, Anything> as Rows>⟧.seen rows).hand }
+    requires idle { IsIdle (⟦<BoardRows<'b, Anything> as Readable>⟧.seen rows).hand }
     requires owed { length (owed_by_state session.state) ≤ 2 }
-    requires spare { 2 ≤ (⟦<BoardRows<'b, Anything> as Rows>⟧.seen rows).left }
+    requires spare { 2 ≤ (⟦<BoardRows<'b, Anything> as Readable>⟧.seen rows).left }
     requires room { 3 ≤ session.journal.room }
-    ensures idle { IsIdle (⟦<BoardRows<'b, Anything> as Rows>⟧.seen result.0).hand }
+    ensures idle { IsIdle (⟦<BoardRows<'b, Anything> as Readable>⟧.seen result.0).hand }
 {
     let mut hold = BoardHold::new(rt, rows, None);
     let log = session.pause(&mut hold).take_log();
@@ -243,12 +243,12 @@ pub(crate) fn flags<'b>(
     word: u64,
 ) -> (u64, u16)
     requires known { word < 160 }
-    requires begun { IsBegun (⟦<BoardRows<'b, Anything> as Rows>⟧.seen rows.old).reached writer.now.switches }
-    requires idle { IsIdle (⟦<BoardRows<'b, Anything> as Rows>⟧.seen rows.old).hand }
-    ensures begun { IsBegun (⟦<BoardRows<'b, Anything> as Rows>⟧.seen rows.new).reached writer.now.switches }
-    ensures idle { IsIdle (⟦<BoardRows<'b, Anything> as Rows>⟧.seen rows.new).hand }
-    ensures left { (⟦<BoardRows<'b, Anything> as Rows>⟧.seen rows.new).left
-        ≡ (⟦<BoardRows<'b, Anything> as Rows>⟧.seen rows.old).left }
+    requires begun { IsBegun (⟦<BoardRows<'b, Anything> as Readable>⟧.seen rows.old).reached writer.now.switches }
+    requires idle { IsIdle (⟦<BoardRows<'b, Anything> as Readable>⟧.seen rows.old).hand }
+    ensures begun { IsBegun (⟦<BoardRows<'b, Anything> as Readable>⟧.seen rows.new).reached writer.now.switches }
+    ensures idle { IsIdle (⟦<BoardRows<'b, Anything> as Readable>⟧.seen rows.new).hand }
+    ensures left { (⟦<BoardRows<'b, Anything> as Readable>⟧.seen rows.new).left
+        ≡ (⟦<BoardRows<'b, Anything> as Readable>⟧.seen rows.old).left }
 {
     rows.load(word)
 }
@@ -256,8 +256,8 @@ pub(crate) fn flags<'b>(
 // What stands in a row.
 pub(crate) fn look<'b>(rows: &mut BoardRows<'b, Anything>, row: u64) -> Seen
     requires known { IsRow row }
-    requires idle { IsIdle (⟦<BoardRows<'b, Anything> as Rows>⟧.seen rows.old).hand }
-    ensures idle { IsIdle (⟦<BoardRows<'b, Anything> as Rows>⟧.seen rows.new).hand }
+    requires idle { IsIdle (⟦<BoardRows<'b, Anything> as Readable>⟧.seen rows.old).hand }
+    ensures idle { IsIdle (⟦<BoardRows<'b, Anything> as Readable>⟧.seen rows.new).hand }
 {
     rows.read(row)
 }

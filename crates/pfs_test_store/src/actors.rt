@@ -14,7 +14,7 @@ use pfs_admin::{Admin, opening_flags};
 use pfs_board::{Board, BoardSeat, Kept, NoMemory, Opening};
 use pfs_board_store::{BoardRows, Seats};
 use pfs_classes::Setting;
-use pfs_levels::Rows;
+use pfs_levels::Readable;
 use pfs_matching::Objects;
 use pfs_session::Session;
 use pfs_stat::zero;
@@ -158,10 +158,10 @@ pub(crate) fn actor<'a>(
     ensures others { (reader.new.view.number ≡ 0) × (drawer.new.view.number ≡ 0)
         × (drawer.old.view.draws ≤ drawer.new.view.draws + 50) }
     ensures words { reader.new.view.start ≡ reader.old.view.start }
-    ensures begun { IsBegun (⟦<BoardRows<'a, Anything> as Rows>⟧.seen result).reached switches.now.id }
-    ensures idle { IsIdle (⟦<BoardRows<'a, Anything> as Rows>⟧.seen result).hand }
-    ensures left { (⟦<BoardRows<'a, Anything> as Rows>⟧.seen result).left ≡ 300 }
-    ensures draws { (⟦<BoardRows<'a, Anything> as Rows>⟧.seen result).draws ≡ 50 }
+    ensures begun { IsBegun (⟦<BoardRows<'a, Anything> as Readable>⟧.seen result).reached switches.now.id }
+    ensures idle { IsIdle (⟦<BoardRows<'a, Anything> as Readable>⟧.seen result).hand }
+    ensures left { (⟦<BoardRows<'a, Anything> as Readable>⟧.seen result).left ≡ 300 }
+    ensures draws { (⟦<BoardRows<'a, Anything> as Readable>⟧.seen result).draws ≡ 50 }
 {
     let seats = Seats {
         board: board.split(root, 300),

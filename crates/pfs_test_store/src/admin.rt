@@ -9,7 +9,7 @@ use crate::asserts::same;
 use pfs_admin::*;
 use pfs_classes::{Classes, DigestList, Setting, TableList};
 use pfs_consumers::Flags;
-use pfs_levels::{Log, PlainRows, Rows};
+use pfs_levels::{Log, PlainRows, Readable};
 use pfs_matching::Objects;
 use pfs_names::{NameId, Names};
 use pfs_rows::Limits;
@@ -56,10 +56,10 @@ pub(crate) fn setting_with(alloc: Global, consumers: u16) -> Result<Setting, Fai
 
 // A store that opens with the setting's flags.
 pub(crate) fn store(alloc: Global, setting: &Setting) -> Result<PlainRows, NoMemory>
-    ensures words { IfOk result (λ rows. (⟦<PlainRows as Rows>⟧.seen rows).words ≡ Some (opened setting.now).words) }
-    ensures left { IfOk result (λ rows. (⟦<PlainRows as Rows>⟧.seen rows).left ≡ 2 ^ 47) }
-    ensures draws { IfOk result (λ rows. (⟦<PlainRows as Rows>⟧.seen rows).draws ≡ 2 ^ 47) }
-    ensures hand { IfOk result (λ rows. (r : ℕ) → (⟦<PlainRows as Rows>⟧.seen rows).hand r ≡ None) }
+    ensures words { IfOk result (λ rows. (⟦<PlainRows as Readable>⟧.seen rows).words ≡ Some (opened setting.now).words) }
+    ensures left { IfOk result (λ rows. (⟦<PlainRows as Readable>⟧.seen rows).left ≡ 2 ^ 47) }
+    ensures draws { IfOk result (λ rows. (⟦<PlainRows as Readable>⟧.seen rows).draws ≡ 2 ^ 47) }
+    ensures hand { IfOk result (λ rows. (r : ℕ) → (⟦<PlainRows as Readable>⟧.seen rows).hand r ≡ None) }
 {
     let objects = Objects::open(alloc)?;
     let flags = opening_flags(alloc, setting, &objects)?;

@@ -8,7 +8,7 @@ use crate::actors::{Anything, actor, fresh, fresh_tickets};
 use crate::asserts::same;
 use pfs_board::{Content, NoMemory};
 use pfs_board_store::{BoardHold, BoardRows};
-use pfs_levels::{Added, Hold, RingPut, Rows};
+use pfs_levels::{Added, Hold, Readable, RingPut, Rows};
 use pfs_rows::Seen;
 use pfs_stat::{Measure, Stat, of_event};
 use pfs_switches::{SwitchSeat, Switches, Writer};
@@ -44,11 +44,11 @@ fn event_of(ticket: u64) -> Content
 // Offers the event of a ticket to the place of ticket 0.
 fn offer<'a>(rows: &mut BoardRows<'a, Anything>, content: &Content) -> RingPut
     requires ring { IsRing 10242 content.now }
-    requires idle { (r : ℕ) → (⟦<BoardRows<'a, Anything> as Rows>⟧.seen rows.old).hand r ≡ None }
-    requires room { 0 < (⟦<BoardRows<'a, Anything> as Rows>⟧.seen rows.old).left }
-    ensures idle { (r : ℕ) → (⟦<BoardRows<'a, Anything> as Rows>⟧.seen rows.new).hand r ≡ None }
-    ensures left { (⟦<BoardRows<'a, Anything> as Rows>⟧.seen rows.old).left
-        ≤ (⟦<BoardRows<'a, Anything> as Rows>⟧.seen rows.new).left + 1 }
+    requires idle { (r : ℕ) → (⟦<BoardRows<'a, Anything> as Readable>⟧.seen rows.old).hand r ≡ None }
+    requires room { 0 < (⟦<BoardRows<'a, Anything> as Readable>⟧.seen rows.old).left }
+    ensures idle { (r : ℕ) → (⟦<BoardRows<'a, Anything> as Readable>⟧.seen rows.new).hand r ≡ None }
+    ensures left { (⟦<BoardRows<'a, Anything> as Readable>⟧.seen rows.old).left
+        ≤ (⟦<BoardRows<'a, Anything> as Readable>⟧.seen rows.new).left + 1 }
 {
     rows.ring_try(LONG, content)
 }
@@ -56,10 +56,10 @@ fn offer<'a>(rows: &mut BoardRows<'a, Anything>, content: &Content) -> RingPut
 // Reads a row that it hasn't in hand.
 fn look<'a>(rows: &mut BoardRows<'a, Anything>, row: u64) -> Seen
     requires row { (0 < row) × (row < 14242) }
-    requires idle { (r : ℕ) → (⟦<BoardRows<'a, Anything> as Rows>⟧.seen rows.old).hand r ≡ None }
-    ensures idle { (r : ℕ) → (⟦<BoardRows<'a, Anything> as Rows>⟧.seen rows.new).hand r ≡ None }
-    ensures left { (⟦<BoardRows<'a, Anything> as Rows>⟧.seen rows.new).left
-        ≡ (⟦<BoardRows<'a, Anything> as Rows>⟧.seen rows.old).left }
+    requires idle { (r : ℕ) → (⟦<BoardRows<'a, Anything> as Readable>⟧.seen rows.old).hand r ≡ None }
+    ensures idle { (r : ℕ) → (⟦<BoardRows<'a, Anything> as Readable>⟧.seen rows.new).hand r ≡ None }
+    ensures left { (⟦<BoardRows<'a, Anything> as Readable>⟧.seen rows.new).left
+        ≡ (⟦<BoardRows<'a, Anything> as Readable>⟧.seen rows.old).left }
 {
     rows.read(row)
 }
@@ -84,11 +84,11 @@ fn whole(version: u64, content: Content) -> Seen {
 
 // Ends a wait of that cell.
 fn count<'a>(rows: &mut BoardRows<'a, Anything>, amount: &Stat) -> Added
-    requires idle { (r : ℕ) → (⟦<BoardRows<'a, Anything> as Rows>⟧.seen rows.old).hand r ≡ None }
-    requires room { 0 < (⟦<BoardRows<'a, Anything> as Rows>⟧.seen rows.old).left }
-    ensures idle { (r : ℕ) → (⟦<BoardRows<'a, Anything> as Rows>⟧.seen rows.new).hand r ≡ None }
-    ensures left { (⟦<BoardRows<'a, Anything> as Rows>⟧.seen rows.old).left
-        ≤ (⟦<BoardRows<'a, Anything> as Rows>⟧.seen rows.new).left + 1 }
+    requires idle { (r : ℕ) → (⟦<BoardRows<'a, Anything> as Readable>⟧.seen rows.old).hand r ≡ None }
+    requires room { 0 < (⟦<BoardRows<'a, Anything> as Readable>⟧.seen rows.old).left }
+    ensures idle { (r : ℕ) → (⟦<BoardRows<'a, Anything> as Readable>⟧.seen rows.new).hand r ≡ None }
+    ensures left { (⟦<BoardRows<'a, Anything> as Readable>⟧.seen rows.old).left
+        ≤ (⟦<BoardRows<'a, Anything> as Readable>⟧.seen rows.new).left + 1 }
 {
     rows.add_try(CELL, amount)
 }

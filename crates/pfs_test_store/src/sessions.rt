@@ -14,7 +14,7 @@ use crate::levels::said;
 use pfs_admin::Admin;
 use pfs_classes::Setting;
 use pfs_event::{Entry, EventKind, Verdict};
-use pfs_levels::{Added, Content, Hold, Log, PlainRows, RingPut, Rows};
+use pfs_levels::{Added, Content, Hold, Log, PlainRows, Readable, RingPut, Rows};
 use pfs_model::Subject;
 use pfs_names::NameId;
 use pfs_rows::Seen;
@@ -38,16 +38,26 @@ struct Refusing {
     puts: u64,
 }
 
-impl Rows for Refusing {
+impl Readable for Refusing {
     ghost seen = { λ s. record {
       reached = λ start calls. Unit {0};
-      hand = (⟦<PlainRows as Rows>⟧.seen s.rows).hand;
-      left = (⟦<PlainRows as Rows>⟧.seen s.rows).left;
-      draws = (⟦<PlainRows as Rows>⟧.seen s.rows).draws;
-      words = (⟦<PlainRows as Rows>⟧.seen s.rows).words;
+      hand = (⟦<PlainRows as Readable>⟧.seen s.rows).hand;
+      left = (⟦<PlainRows as Readable>⟧.seen s.rows).left;
+      draws = (⟦<PlainRows as Readable>⟧.seen s.rows).draws;
+      words = (⟦<PlainRows as Readable>⟧.seen s.rows).words;
       name = 0;
     } };
 
+    fn read(&mut self, row: u64) -> Seen {
+        self.rows.read(row)
+    }
+
+    fn load(&mut self, word: u64) -> (u64, u16) {
+        self.rows.load(word)
+    }
+}
+
+impl Rows for Refusing {
     fn add_try(&mut self, row: u64, amount: &Stat) -> Added {
         if self.additions > 0 {
             self.additions -= 1;
@@ -78,14 +88,6 @@ impl Rows for Refusing {
         }
     }
 
-    fn read(&mut self, row: u64) -> Seen {
-        self.rows.read(row)
-    }
-
-    fn load(&mut self, word: u64) -> (u64, u16) {
-        self.rows.load(word)
-    }
-
     fn ticket(&mut self, kind: u64) -> u64 {
         self.rows.ticket(kind)
     }
@@ -111,10 +113,10 @@ impl Hold for Refusing {
 
 // A store that opens with the setting's flags, and refuses so many additions and puts first.
 fn store(alloc: Global, setting: &Setting, additions: u64, puts: u64) -> Result<Refusing, NoMemory>
-    ensures words { IfOk result (λ rows. (⟦<Refusing as Rows>⟧.seen rows).words ≡ Some (opened setting.now).words) }
-    ensures left { IfOk result (λ rows. (⟦<Refusing as Rows>⟧.seen rows).left ≡ 2 ^ 47) }
-    ensures draws { IfOk result (λ rows. (⟦<Refusing as Rows>⟧.seen rows).draws ≡ 2 ^ 47) }
-    ensures hand { IfOk result (λ rows. (r : ℕ) → (⟦<Refusing as Rows>⟧.seen rows).hand r ≡ None) }
+    ensures words { IfOk result (λ rows. (⟦<Refusing as Readable>⟧.seen rows).words ≡ Some (opened setting.now).words) }
+    ensures left { IfOk result (λ rows. (⟦<Refusing as Readable>⟧.seen rows).left ≡ 2 ^ 47) }
+    ensures draws { IfOk result (λ rows. (⟦<Refusing as Readable>⟧.seen rows).draws ≡ 2 ^ 47) }
+    ensures hand { IfOk result (λ rows. (r : ℕ) → (⟦<Refusing as Readable>⟧.seen rows).hand r ≡ None) }
 {
     let rows = admin::store(alloc, setting)?;
     Ok(Refusing {
@@ -132,10 +134,10 @@ fn fresh(
     puts: u64,
 ) -> Result<(Refusing, Admin), NoMemory>
     requires names { 2 ≤ length setting.now.names }
-    ensures words { IfOk result (λ b. (⟦<Refusing as Rows>⟧.seen b.0).words ≡ Some b.1.words) }
-    ensures left { IfOk result (λ b. (⟦<Refusing as Rows>⟧.seen b.0).left ≡ 2 ^ 47) }
-    ensures draws { IfOk result (λ b. (⟦<Refusing as Rows>⟧.seen b.0).draws ≡ 2 ^ 47) }
-    ensures hand { IfOk result (λ b. (r : ℕ) → (⟦<Refusing as Rows>⟧.seen b.0).hand r ≡ None) }
+    ensures words { IfOk result (λ b. (⟦<Refusing as Readable>⟧.seen b.0).words ≡ Some b.1.words) }
+    ensures left { IfOk result (λ b. (⟦<Refusing as Readable>⟧.seen b.0).left ≡ 2 ^ 47) }
+    ensures draws { IfOk result (λ b. (⟦<Refusing as Readable>⟧.seen b.0).draws ≡ 2 ^ 47) }
+    ensures hand { IfOk result (λ b. (r : ℕ) → (⟦<Refusing as Readable>⟧.seen b.0).hand r ≡ None) }
     ensures admin { IfOk result (λ b. (b.1.actions ≡ 0) × (2 ≤ length b.1.names)) }
 {
     let rows = store(alloc, setting, additions, puts)?;

@@ -9,7 +9,7 @@ use crate::actions::{connect, flags, look, pause, quit, truncate, wait};
 use crate::actors::Anything;
 use pfs_admin::{Admin, Reply, Truncation};
 use pfs_board_store::{BoardHold, BoardRows};
-use pfs_levels::{Added, Hold, Log, Rows};
+use pfs_levels::{Added, Hold, Log, Readable};
 use pfs_rows::{Seen, SummaryTable, TableKind};
 use pfs_session::Session;
 use pfs_switches::Writer;
@@ -34,15 +34,15 @@ pub(crate) fn come_and_go<'b, R: Wait>(
     admin: Admin,
     session: Session,
 ) -> Gone
-    requires begun { IsBegun (⟦<BoardRows<'b, Anything> as Rows>⟧.seen rows).reached writer.switches }
+    requires begun { IsBegun (⟦<BoardRows<'b, Anything> as Readable>⟧.seen rows).reached writer.switches }
     requires wide { 160 ≤ length writer.view.seen }
-    requires idle { IsIdle (⟦<BoardRows<'b, Anything> as Rows>⟧.seen rows).hand }
+    requires idle { IsIdle (⟦<BoardRows<'b, Anything> as Readable>⟧.seen rows).hand }
     requires lent { Some (words_of writer.view) ≡ Some admin.words }
     requires few { admin.actions ≡ 0 }
     requires names { 2 ≤ length admin.names }
     requires first { (session.state.actions ≡ 0) × (session.state.place ≡ no_place) }
     requires closed { session.state.opened ≡ record { depth = 1; events = [] } }
-    requires spare { 258 ≤ (⟦<BoardRows<'b, Anything> as Rows>⟧.seen rows).left }
+    requires spare { 258 ≤ (⟦<BoardRows<'b, Anything> as Readable>⟧.seen rows).left }
     requires room { 261 ≤ session.journal.room }
 {
     let mut admin = admin;
@@ -79,19 +79,19 @@ pub(crate) fn settle_behind<'b, R: Wait>(
     admin: Admin,
     session: Session,
 ) -> Settled
-    requires begun { IsBegun (⟦<BoardRows<'b, Anything> as Rows>⟧.seen rows).reached writer.switches }
+    requires begun { IsBegun (⟦<BoardRows<'b, Anything> as Readable>⟧.seen rows).reached writer.switches }
     requires wide { 160 ≤ length writer.view.seen }
-    requires idle { IsIdle (⟦<BoardRows<'b, Anything> as Rows>⟧.seen rows).hand }
-    requires other_idle { IsIdle (⟦<BoardRows<'b, Anything> as Rows>⟧.seen other).hand }
-    requires other_spare { 1 ≤ (⟦<BoardRows<'b, Anything> as Rows>⟧.seen other).left }
+    requires idle { IsIdle (⟦<BoardRows<'b, Anything> as Readable>⟧.seen rows).hand }
+    requires other_idle { IsIdle (⟦<BoardRows<'b, Anything> as Readable>⟧.seen other).hand }
+    requires other_spare { 1 ≤ (⟦<BoardRows<'b, Anything> as Readable>⟧.seen other).left }
     requires lent { Some (words_of writer.view) ≡ Some admin.words }
     requires few { admin.actions ≡ 0 }
     requires names { 2 ≤ length admin.names }
     requires first { (session.state.actions ≡ 0) × (session.state.place ≡ no_place) }
     requires drawn { session.state.drawn ≡ 0 }
     requires closed { session.state.opened ≡ record { depth = 1; events = [] } }
-    requires spare { 13 ≤ (⟦<BoardRows<'b, Anything> as Rows>⟧.seen rows).left }
-    requires tickets { 1 ≤ (⟦<BoardRows<'b, Anything> as Rows>⟧.seen rows).draws }
+    requires spare { 13 ≤ (⟦<BoardRows<'b, Anything> as Readable>⟧.seen rows).left }
+    requires tickets { 1 ≤ (⟦<BoardRows<'b, Anything> as Readable>⟧.seen rows).draws }
     requires room { 17 ≤ session.journal.room }
 {
     let mut admin = admin;
@@ -128,17 +128,17 @@ pub(crate) fn truncate_waits<'b, R: Wait>(
     admin: Admin,
     session: Session,
 ) -> Result<Truncated, Fail>
-    requires begun { IsBegun (⟦<BoardRows<'b, Anything> as Rows>⟧.seen rows).reached writer.switches }
+    requires begun { IsBegun (⟦<BoardRows<'b, Anything> as Readable>⟧.seen rows).reached writer.switches }
     requires wide { 160 ≤ length writer.view.seen }
-    requires idle { IsIdle (⟦<BoardRows<'b, Anything> as Rows>⟧.seen rows).hand }
+    requires idle { IsIdle (⟦<BoardRows<'b, Anything> as Readable>⟧.seen rows).hand }
     requires lent { Some (words_of writer.view) ≡ Some admin.words }
     requires few { admin.actions ≡ 0 }
     requires names { 2 ≤ length admin.names }
     requires first { (session.state.actions ≡ 0) × (session.state.place ≡ no_place) }
     requires drawn { session.state.drawn ≡ 0 }
     requires closed { session.state.opened ≡ record { depth = 1; events = [] } }
-    requires spare { 214 ≤ (⟦<BoardRows<'b, Anything> as Rows>⟧.seen rows).left }
-    requires tickets { 1 ≤ (⟦<BoardRows<'b, Anything> as Rows>⟧.seen rows).draws }
+    requires spare { 214 ≤ (⟦<BoardRows<'b, Anything> as Readable>⟧.seen rows).left }
+    requires tickets { 1 ≤ (⟦<BoardRows<'b, Anything> as Readable>⟧.seen rows).draws }
     requires room { 219 ≤ session.journal.room }
 {
     let mut admin = admin;

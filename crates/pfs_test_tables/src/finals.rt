@@ -8,7 +8,7 @@ use crate::settings;
 use pfs_classes::{Setting, TableList};
 use pfs_finals::{LostCounters, final_tables, lost_rows};
 use pfs_journal::{LostReport, TableReport};
-use pfs_levels::{Content, Hold, NoMemory, PlainRows, Rows};
+use pfs_levels::{Content, Hold, NoMemory, PlainRows, Readable, Rows};
 use pfs_reader::{Reader, read_table};
 use pfs_rows::{Reading, Seen, Table};
 use pfs_stat::{Measure, of_event};
@@ -24,10 +24,10 @@ fn setting(alloc: Global) -> Result<Setting, Fail> {
 // Writes a row, which is in nobody's hand then.
 fn write(rows: &mut PlainRows, row: u64, content: &Content)
     requires known { IsRow row }
-    requires away { (r : ℕ) → (⟦<PlainRows as Rows>⟧.seen rows.old).hand r ≡ None }
-    requires room { 0 < (⟦<PlainRows as Rows>⟧.seen rows.old).left }
-    ensures away { (r : ℕ) → (⟦<PlainRows as Rows>⟧.seen rows.new).hand r ≡ None }
-    ensures left { (⟦<PlainRows as Rows>⟧.seen rows.old).left ≤ (⟦<PlainRows as Rows>⟧.seen rows.new).left + 1 }
+    requires away { (r : ℕ) → (⟦<PlainRows as Readable>⟧.seen rows.old).hand r ≡ None }
+    requires room { 0 < (⟦<PlainRows as Readable>⟧.seen rows.old).left }
+    ensures away { (r : ℕ) → (⟦<PlainRows as Readable>⟧.seen rows.new).hand r ≡ None }
+    ensures left { (⟦<PlainRows as Readable>⟧.seen rows.old).left ≤ (⟦<PlainRows as Readable>⟧.seen rows.new).left + 1 }
 {
     let _ = rows.take(row);
     let _ = rows.put(row, content);
@@ -35,9 +35,9 @@ fn write(rows: &mut PlainRows, row: u64, content: &Content)
 
 // The infos of one session of u at h, and a statement of 5 picoseconds of its thread.
 fn fill(rows: &mut PlainRows)
-    requires away { (r : ℕ) → (⟦<PlainRows as Rows>⟧.seen rows.old).hand r ≡ None }
-    requires room { 5 ≤ (⟦<PlainRows as Rows>⟧.seen rows.old).left }
-    ensures { (r : ℕ) → (⟦<PlainRows as Rows>⟧.seen rows.new).hand r ≡ None }
+    requires away { (r : ℕ) → (⟦<PlainRows as Readable>⟧.seen rows.old).hand r ≡ None }
+    requires room { 5 ≤ (⟦<PlainRows as Readable>⟧.seen rows.old).left }
+    ensures { (r : ℕ) → (⟦<PlainRows as Readable>⟧.seen rows.new).hand r ≡ None }
 {
     write(rows, 1, &[1, 1, 1, 1, 0, 1, 0, 0, 0, 0, 0, 0, 0, 0, 0, 0]);
     write(rows, 33, &[0, 1, 1, 1, 1, 2, 0, 0, 0, 0, 0, 0, 0, 0, 0, 0]);

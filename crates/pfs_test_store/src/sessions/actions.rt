@@ -9,7 +9,7 @@ use crate::asserts::same;
 use crate::levels::said;
 use pfs_admin::Admin;
 use pfs_event::Entry;
-use pfs_levels::Rows;
+use pfs_levels::{Readable, Rows};
 use pfs_names::NameId;
 use pfs_rows::Seen;
 use pfs_session::Session;
@@ -19,15 +19,15 @@ use std::test::Fail;
 
 // A session that has connected and recorded a wait, whose addition is refused where the store refuses one.
 fn waiting(alloc: Global, rows: &mut Refusing, admin: &mut Admin) -> Result<Session, Fail>
-    requires words { (⟦<Refusing as Rows>⟧.seen rows.old).words ≡ Some admin.old.words }
-    requires left { (⟦<Refusing as Rows>⟧.seen rows.old).left ≡ 2 ^ 47 }
-    requires draws { (⟦<Refusing as Rows>⟧.seen rows.old).draws ≡ 2 ^ 47 }
-    requires hand { (r : ℕ) → (⟦<Refusing as Rows>⟧.seen rows.old).hand r ≡ None }
+    requires words { (⟦<Refusing as Readable>⟧.seen rows.old).words ≡ Some admin.old.words }
+    requires left { (⟦<Refusing as Readable>⟧.seen rows.old).left ≡ 2 ^ 47 }
+    requires draws { (⟦<Refusing as Readable>⟧.seen rows.old).draws ≡ 2 ^ 47 }
+    requires hand { (r : ℕ) → (⟦<Refusing as Readable>⟧.seen rows.old).hand r ≡ None }
     requires fresh { admin.old.actions ≡ 0 }
     requires names { 2 ≤ length admin.old.names }
-    ensures words { (⟦<Refusing as Rows>⟧.seen rows.new).words ≡ Some admin.new.words }
-    ensures left { 2 ^ 47 ≤ (⟦<Refusing as Rows>⟧.seen rows.new).left + 10 }
-    ensures hand { (r : ℕ) → (⟦<Refusing as Rows>⟧.seen rows.new).hand r ≡ None }
+    ensures words { (⟦<Refusing as Readable>⟧.seen rows.new).words ≡ Some admin.new.words }
+    ensures left { 2 ^ 47 ≤ (⟦<Refusing as Readable>⟧.seen rows.new).left + 10 }
+    ensures hand { (r : ℕ) → (⟦<Refusing as Readable>⟧.seen rows.new).hand r ≡ None }
     ensures few { admin.new.actions ≤ 1 }
     ensures closed { IfOk result (λ s. s.state.opened ≡ record { depth = 1; events = [] }) }
     ensures early { IfOk result (λ s. s.state.actions ≡ 1) }

@@ -12,7 +12,7 @@ empty_place-requires-clause-spare g c =
     let cells = c.args.cells.now in
     let f = asks_at s cells c.args.level in
     let i = c.loop-place.place in
-    enough (up_to f i) (place_asks cells c.source_at-source.result) (up_to f (i + 1)) (level_asks s cells c.args.level) (g.H.Rows.seen c.args.rows.now).left (g.H.Rows.seen c.loop-place.rows).left
+    enough (up_to f i) (place_asks cells c.source_at-source.result) (up_to f (i + 1)) (level_asks s cells c.args.level) (g.H.Readable.seen c.args.rows.now).left (g.H.Readable.seen c.loop-place.rows).left
     (up_next f i ∙ ap (λ z. up_to f i ++ place_asks cells z) (sym c.source_at-source.ensures.source))
     (level_front s cells c.args.level (i + 1) (omega arith)) c.requires.spare c.loop-place.invariant.stays.left
 
@@ -45,7 +45,7 @@ returns-clause-moved g c =
     let whole : up_to (asks_at c.args.containers.now.now.places c.args.cells.now c.args.level) c.loop-place.place
     ≡ level_asks c.args.containers.now.now.places c.args.cells.now c.args.level =
     level_whole c.args.containers.now.now.places c.args.cells.now c.args.level c.loop-place.place (omega arith) in
-    subst (λ z. Moved z c.args.log.now c.loop-place.log (g.H.Rows.seen c.args.rows.now).reached (g.H.Rows.seen c.loop-place.rows).reached) whole c.loop-place.invariant.moved
+    subst (λ z. Moved z c.args.log.now c.loop-place.log (g.H.Readable.seen c.args.rows.now).reached (g.H.Readable.seen c.loop-place.rows).reached) whole c.loop-place.invariant.moved
 
 pub returns-clause-stays : goal.returns-clause-stays
 returns-clause-stays g c =

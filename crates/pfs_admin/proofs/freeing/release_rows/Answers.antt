@@ -19,7 +19,7 @@ loop-place-preserved g c =
     let f = freed_at c.args.first in
     let i = c.loop-place.place in
     record {
-      signed = subst (λ z. Signed z c.args.log.now c.release.new.log (g.H.Rows.seen c.args.rows.now).reached (g.H.Rows.seen c.release.new.rows).reached) (sym (up_next f i))
+      signed = subst (λ z. Signed z c.args.log.now c.release.new.log (g.H.Readable.seen c.args.rows.now).reached (g.H.Readable.seen c.release.new.rows).reached) (sym (up_next f i))
           (signed_then (up_to f i) (f i) _ _ _ _ _ _ c.loop-place.invariant.signed c.release.ensures.signed);
       stays = stays_then i 1 _ _ _ _ _ _ c.loop-place.invariant.stays c.release.ensures.stays;
     }
@@ -28,7 +28,7 @@ pub returns-clause-signed : goal.returns-clause-signed
 returns-clause-signed g c =
     let whole : up_to (freed_at c.args.first) c.loop-place.place ≡ free_rows c.args.first c.args.count =
     rows_whole c.args.first c.args.count c.loop-place.place (omega arith) in
-    subst (λ z. Signed z c.args.log.now c.loop-place.log (g.H.Rows.seen c.args.rows.now).reached (g.H.Rows.seen c.loop-place.rows).reached) whole c.loop-place.invariant.signed
+    subst (λ z. Signed z c.args.log.now c.loop-place.log (g.H.Readable.seen c.args.rows.now).reached (g.H.Readable.seen c.loop-place.rows).reached) whole c.loop-place.invariant.signed
 
 pub returns-clause-stays : goal.returns-clause-stays
 returns-clause-stays g c =

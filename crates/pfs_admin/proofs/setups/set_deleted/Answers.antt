@@ -11,7 +11,7 @@ returns-clause-did g c =
     let words = c.args.words.now in
     let first = first_word c.args.table in
     let count = word_count c.args.table in
-    subst (λ z. Did (flagging_calls words (flags_changed z words first count)) (flagging_entries words (flags_changed z words first count)) c.args.log.now c.set_inserted.new.log (g.H.Rows.seen c.args.rows.now).reached (g.H.Rows.seen c.set_inserted.new.rows).reached)
+    subst (λ z. Did (flagging_calls words (flags_changed z words first count)) (flagging_entries words (flags_changed z words first count)) c.args.log.now c.set_inserted.new.log (g.H.Readable.seen c.args.rows.now).reached (g.H.Readable.seen c.set_inserted.new.rows).reached)
     (answered_rows c.args.names.now c.args.objects.now c.args.table 1) c.set_inserted.ensures.did
 
 pub returns-clause-mine : goal.returns-clause-mine

@@ -31,7 +31,7 @@ loop-at-preserved g c =
     c.flags_by_answer-flags.ensures ∙ ap (λ (w : Word). change (first + i) w.flags) same in
     record {
       did = changed_more change words first i c.flags_by_answer-flags.result c.args.log.now c.loop-at.log c.flag.new.log _ _ _ flags c.loop-at.invariant.did
-          (subst (λ z. Did (flagging_calls z (flagging z (first + i) c.flags_by_answer-flags.result)) (flagging_entries z (flagging z (first + i) c.flags_by_answer-flags.result)) c.loop-at.log c.flag.new.log (g.H.Rows.seen c.loop-at.rows).reached (g.H.Rows.seen c.flag.new.rows).reached) c.loop-at.invariant.mine c.flag.ensures.did);
+          (subst (λ z. Did (flagging_calls z (flagging z (first + i) c.flags_by_answer-flags.result)) (flagging_entries z (flagging z (first + i) c.flags_by_answer-flags.result)) c.loop-at.log c.flag.new.log (g.H.Readable.seen c.loop-at.rows).reached (g.H.Readable.seen c.flag.new.rows).reached) c.loop-at.invariant.mine c.flag.ensures.did);
       mine = c.flag.ensures.mine ∙ (ap (λ (z : List Word). flagged z (first + i) c.flags_by_answer-flags.result) c.loop-at.invariant.mine
           ∙ (ap (λ z. flagged (changed_up_to change words first i) (first + i) z) flags ∙ sym (changed_next change words first i)));
       used = record {
@@ -48,9 +48,9 @@ loop-at-preserved g c =
 pub returns-clause-did : goal.returns-clause-did
 returns-clause-did g c =
     let change = inserts.flags_by_answer c.args.names.now c.args.objects.now c.args.table c.args.answer.now in
-    subst (λ z. Did (flagging_calls c.args.words.now (flags_changed change c.args.words.now z (word_count c.args.table))) (flagging_entries c.args.words.now (flags_changed change c.args.words.now z (word_count c.args.table))) c.args.log.now c.loop-at.log (g.H.Rows.seen c.args.rows.now).reached (g.H.Rows.seen c.loop-at.rows).reached)
+    subst (λ z. Did (flagging_calls c.args.words.now (flags_changed change c.args.words.now z (word_count c.args.table))) (flagging_entries c.args.words.now (flags_changed change c.args.words.now z (word_count c.args.table))) c.args.log.now c.loop-at.log (g.H.Readable.seen c.args.rows.now).reached (g.H.Readable.seen c.loop-at.rows).reached)
     c.first_word-first.ensures.first
-    (subst (λ z. Did (flagging_calls c.args.words.now z) (flagging_entries c.args.words.now z) c.args.log.now c.loop-at.log (g.H.Rows.seen c.args.rows.now).reached (g.H.Rows.seen c.loop-at.rows).reached)
+    (subst (λ z. Did (flagging_calls c.args.words.now z) (flagging_entries c.args.words.now z) c.args.log.now c.loop-at.log (g.H.Readable.seen c.args.rows.now).reached (g.H.Readable.seen c.loop-at.rows).reached)
     (flags_whole change c.args.words.now c.first_word-first.result c.loop-at.at (word_count c.args.table) (omega arith)) c.loop-at.invariant.did)
 
 pub returns-clause-mine : goal.returns-clause-mine

@@ -11,7 +11,7 @@ invariant-loop-at g l =
     let change = updates.flags_behind l.fn.names l.fn.containers.now.places.threads l.fn.objects l.fn.what in
     let first = l.first in
     record {
-      did : Did (flagging_calls l.fn.words (up_to (change_at change l.fn.words first) l.at)) (flagging_entries l.fn.words (up_to (change_at change l.fn.words first) l.at)) l.fn.log l.log (g.H.Rows.seen l.fn.rows).reached (g.H.Rows.seen l.rows).reached;
+      did : Did (flagging_calls l.fn.words (up_to (change_at change l.fn.words first) l.at)) (flagging_entries l.fn.words (up_to (change_at change l.fn.words first) l.at)) l.fn.log l.log (g.H.Readable.seen l.fn.rows).reached (g.H.Readable.seen l.rows).reached;
       mine : l.words ≡ changed_up_to change l.fn.words first l.at;
-      used : Used 0 0 l.at (lent_as l.words (g.H.Rows.seen l.fn.rows)) (g.H.Rows.seen l.rows) l.fn.log l.log;
+      used : Used 0 0 l.at (lent_as l.words (g.H.Readable.seen l.fn.rows)) (g.H.Readable.seen l.rows) l.fn.log l.log;
     }

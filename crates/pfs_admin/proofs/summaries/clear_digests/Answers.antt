@@ -9,7 +9,7 @@ use Rattle.pfs_admin.proofs.summaries.clear_digests.Goals as goal
 pub clear-requires-clause-spare : goal.clear-requires-clause-spare
 clear-requires-clause-spare g c =
     let i = c.loop-at.at in
-    enough (up_to digest_ask i) (ask (c.row_of.result + i) [] ∷ []) (up_to digest_ask (i + 1)) (digest_asks c.args.places) (g.H.Rows.seen c.args.rows.now).left (g.H.Rows.seen c.loop-at.rows).left
+    enough (up_to digest_ask i) (ask (c.row_of.result + i) [] ∷ []) (up_to digest_ask (i + 1)) (digest_asks c.args.places) (g.H.Readable.seen c.args.rows.now).left (g.H.Readable.seen c.loop-at.rows).left
     (up_next digest_ask i ∙ ap (λ z. up_to digest_ask i ++ ask (z + i) [] ∷ []) (sym c.row_of.ensures.number))
     (digests_front c.args.places (i + 1) (omega arith)) c.requires.spare c.loop-at.invariant.stays.left
 
@@ -34,7 +34,7 @@ loop-at-preserved g c =
 pub returns-clause-moved : goal.returns-clause-moved
 returns-clause-moved g c =
     let whole : up_to digest_ask c.loop-at.at ≡ digest_asks c.args.places = digests_whole c.args.places c.loop-at.at (omega arith) in
-    subst (λ z. Moved z c.args.log.now c.loop-at.log (g.H.Rows.seen c.args.rows.now).reached (g.H.Rows.seen c.loop-at.rows).reached) whole c.loop-at.invariant.moved
+    subst (λ z. Moved z c.args.log.now c.loop-at.log (g.H.Readable.seen c.args.rows.now).reached (g.H.Readable.seen c.loop-at.rows).reached) whole c.loop-at.invariant.moved
 
 pub returns-clause-stays : goal.returns-clause-stays
 returns-clause-stays g c =

@@ -8,7 +8,7 @@ pub clear-requires-clause-spare : goal.clear-requires-clause-spare
 clear-requires-clause-spare g c =
     let cells = c.args.cells.now in
     let i = c.loop-cell.cell-index in
-    enough (map clearing (take i cells)) (ask c.row_of.result [] ∷ []) (map clearing (take (i + 1) cells)) (map clearing cells) (g.H.Rows.seen c.args.rows.now).left (g.H.Rows.seen c.loop-cell.rows).left
+    enough (map clearing (take i cells)) (ask c.row_of.result [] ∷ []) (map clearing (take (i + 1) cells)) (map clearing cells) (g.H.Readable.seen c.args.rows.now).left (g.H.Readable.seen c.loop-cell.rows).left
     (cells_more clearing cells i c.row_of.result [] c.loop-cell-test.true c.row_of.ensures.number refl) (cells_fit clearing cells (i + 1)) c.requires.spare c.loop-cell.invariant.stays.left
 
 pub clear-requires-clause-room : goal.clear-requires-clause-room

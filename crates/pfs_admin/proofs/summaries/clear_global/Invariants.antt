@@ -6,6 +6,6 @@ use Rattle.pfs_admin.proofs.summaries.clear_global.Given as goal
 abbrev pub invariant-loop-cell : goal.invariant-loop-cell
 invariant-loop-cell g l =
     record {
-      moved : Moved (map clearing (take l.cell-index l.cells)) l.fn.log l.log (g.H.Rows.seen l.fn.rows).reached (g.H.Rows.seen l.rows).reached;
-      stays : Stays (cost (map clearing (take l.cell-index l.cells))) (g.H.Rows.seen l.fn.rows) (g.H.Rows.seen l.rows) l.fn.log l.log;
+      moved : Moved (map clearing (take l.cell-index l.cells)) l.fn.log l.log (g.H.Readable.seen l.fn.rows).reached (g.H.Readable.seen l.rows).reached;
+      stays : Stays (cost (map clearing (take l.cell-index l.cells))) (g.H.Readable.seen l.fn.rows) (g.H.Readable.seen l.rows) l.fn.log l.log;
     }

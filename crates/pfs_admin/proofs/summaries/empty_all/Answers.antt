@@ -8,27 +8,27 @@ use Rattle.pfs_admin.proofs.summaries.empty_all.Goals as goal
 pub empty_kind-requires-clause-spare : goal.empty_kind-requires-clause-spare
 empty_kind-requires-clause-spare g c =
     let s = c.args.containers.now.now.places in
-    first_fits (summary_asks s c.args.table c.args.cells.now.waits) ((summary_asks s c.args.table c.args.cells.now.stages) ++ ((summary_asks s c.args.table c.args.cells.now.statements) ++ (summary_asks s c.args.table c.args.cells.now.transactions))) (g.H.Rows.seen c.args.rows.now).left c.requires.spare
+    first_fits (summary_asks s c.args.table c.args.cells.now.waits) ((summary_asks s c.args.table c.args.cells.now.stages) ++ ((summary_asks s c.args.table c.args.cells.now.statements) ++ (summary_asks s c.args.table c.args.cells.now.transactions))) (g.H.Readable.seen c.args.rows.now).left c.requires.spare
 
 pub empty_kind-requires-2-clause-spare : goal.empty_kind-requires-2-clause-spare
 empty_kind-requires-2-clause-spare g c =
     let s = c.args.containers.now.now.places in
-    let fits_1 : cost ((summary_asks s c.args.table c.args.cells.now.stages) ++ ((summary_asks s c.args.table c.args.cells.now.statements) ++ (summary_asks s c.args.table c.args.cells.now.transactions))) ≤ (g.H.Rows.seen c.empty_kind.new.rows).left = next_fits (summary_asks s c.args.table c.args.cells.now.waits) ((summary_asks s c.args.table c.args.cells.now.stages) ++ ((summary_asks s c.args.table c.args.cells.now.statements) ++ (summary_asks s c.args.table c.args.cells.now.transactions))) (g.H.Rows.seen c.args.rows.now).left (g.H.Rows.seen c.empty_kind.new.rows).left c.requires.spare c.empty_kind.ensures.stays.left in
-    first_fits (summary_asks s c.args.table c.args.cells.now.stages) ((summary_asks s c.args.table c.args.cells.now.statements) ++ (summary_asks s c.args.table c.args.cells.now.transactions)) (g.H.Rows.seen c.empty_kind.new.rows).left fits_1
+    let fits_1 : cost ((summary_asks s c.args.table c.args.cells.now.stages) ++ ((summary_asks s c.args.table c.args.cells.now.statements) ++ (summary_asks s c.args.table c.args.cells.now.transactions))) ≤ (g.H.Readable.seen c.empty_kind.new.rows).left = next_fits (summary_asks s c.args.table c.args.cells.now.waits) ((summary_asks s c.args.table c.args.cells.now.stages) ++ ((summary_asks s c.args.table c.args.cells.now.statements) ++ (summary_asks s c.args.table c.args.cells.now.transactions))) (g.H.Readable.seen c.args.rows.now).left (g.H.Readable.seen c.empty_kind.new.rows).left c.requires.spare c.empty_kind.ensures.stays.left in
+    first_fits (summary_asks s c.args.table c.args.cells.now.stages) ((summary_asks s c.args.table c.args.cells.now.statements) ++ (summary_asks s c.args.table c.args.cells.now.transactions)) (g.H.Readable.seen c.empty_kind.new.rows).left fits_1
 
 pub empty_kind-requires-3-clause-spare : goal.empty_kind-requires-3-clause-spare
 empty_kind-requires-3-clause-spare g c =
     let s = c.args.containers.now.now.places in
-    let fits_1 : cost ((summary_asks s c.args.table c.args.cells.now.stages) ++ ((summary_asks s c.args.table c.args.cells.now.statements) ++ (summary_asks s c.args.table c.args.cells.now.transactions))) ≤ (g.H.Rows.seen c.empty_kind.new.rows).left = next_fits (summary_asks s c.args.table c.args.cells.now.waits) ((summary_asks s c.args.table c.args.cells.now.stages) ++ ((summary_asks s c.args.table c.args.cells.now.statements) ++ (summary_asks s c.args.table c.args.cells.now.transactions))) (g.H.Rows.seen c.args.rows.now).left (g.H.Rows.seen c.empty_kind.new.rows).left c.requires.spare c.empty_kind.ensures.stays.left in
-    let fits_2 : cost ((summary_asks s c.args.table c.args.cells.now.statements) ++ (summary_asks s c.args.table c.args.cells.now.transactions)) ≤ (g.H.Rows.seen c.empty_kind-2.new.rows).left = next_fits (summary_asks s c.args.table c.args.cells.now.stages) ((summary_asks s c.args.table c.args.cells.now.statements) ++ (summary_asks s c.args.table c.args.cells.now.transactions)) (g.H.Rows.seen c.empty_kind.new.rows).left (g.H.Rows.seen c.empty_kind-2.new.rows).left fits_1 c.empty_kind-2.ensures.stays.left in
-    first_fits (summary_asks s c.args.table c.args.cells.now.statements) (summary_asks s c.args.table c.args.cells.now.transactions) (g.H.Rows.seen c.empty_kind-2.new.rows).left fits_2
+    let fits_1 : cost ((summary_asks s c.args.table c.args.cells.now.stages) ++ ((summary_asks s c.args.table c.args.cells.now.statements) ++ (summary_asks s c.args.table c.args.cells.now.transactions))) ≤ (g.H.Readable.seen c.empty_kind.new.rows).left = next_fits (summary_asks s c.args.table c.args.cells.now.waits) ((summary_asks s c.args.table c.args.cells.now.stages) ++ ((summary_asks s c.args.table c.args.cells.now.statements) ++ (summary_asks s c.args.table c.args.cells.now.transactions))) (g.H.Readable.seen c.args.rows.now).left (g.H.Readable.seen c.empty_kind.new.rows).left c.requires.spare c.empty_kind.ensures.stays.left in
+    let fits_2 : cost ((summary_asks s c.args.table c.args.cells.now.statements) ++ (summary_asks s c.args.table c.args.cells.now.transactions)) ≤ (g.H.Readable.seen c.empty_kind-2.new.rows).left = next_fits (summary_asks s c.args.table c.args.cells.now.stages) ((summary_asks s c.args.table c.args.cells.now.statements) ++ (summary_asks s c.args.table c.args.cells.now.transactions)) (g.H.Readable.seen c.empty_kind.new.rows).left (g.H.Readable.seen c.empty_kind-2.new.rows).left fits_1 c.empty_kind-2.ensures.stays.left in
+    first_fits (summary_asks s c.args.table c.args.cells.now.statements) (summary_asks s c.args.table c.args.cells.now.transactions) (g.H.Readable.seen c.empty_kind-2.new.rows).left fits_2
 
 pub empty_kind-requires-4-clause-spare : goal.empty_kind-requires-4-clause-spare
 empty_kind-requires-4-clause-spare g c =
     let s = c.args.containers.now.now.places in
-    let fits_1 : cost ((summary_asks s c.args.table c.args.cells.now.stages) ++ ((summary_asks s c.args.table c.args.cells.now.statements) ++ (summary_asks s c.args.table c.args.cells.now.transactions))) ≤ (g.H.Rows.seen c.empty_kind.new.rows).left = next_fits (summary_asks s c.args.table c.args.cells.now.waits) ((summary_asks s c.args.table c.args.cells.now.stages) ++ ((summary_asks s c.args.table c.args.cells.now.statements) ++ (summary_asks s c.args.table c.args.cells.now.transactions))) (g.H.Rows.seen c.args.rows.now).left (g.H.Rows.seen c.empty_kind.new.rows).left c.requires.spare c.empty_kind.ensures.stays.left in
-    let fits_2 : cost ((summary_asks s c.args.table c.args.cells.now.statements) ++ (summary_asks s c.args.table c.args.cells.now.transactions)) ≤ (g.H.Rows.seen c.empty_kind-2.new.rows).left = next_fits (summary_asks s c.args.table c.args.cells.now.stages) ((summary_asks s c.args.table c.args.cells.now.statements) ++ (summary_asks s c.args.table c.args.cells.now.transactions)) (g.H.Rows.seen c.empty_kind.new.rows).left (g.H.Rows.seen c.empty_kind-2.new.rows).left fits_1 c.empty_kind-2.ensures.stays.left in
-    let fits_3 : cost (summary_asks s c.args.table c.args.cells.now.transactions) ≤ (g.H.Rows.seen c.empty_kind-3.new.rows).left = next_fits (summary_asks s c.args.table c.args.cells.now.statements) (summary_asks s c.args.table c.args.cells.now.transactions) (g.H.Rows.seen c.empty_kind-2.new.rows).left (g.H.Rows.seen c.empty_kind-3.new.rows).left fits_2 c.empty_kind-3.ensures.stays.left in
+    let fits_1 : cost ((summary_asks s c.args.table c.args.cells.now.stages) ++ ((summary_asks s c.args.table c.args.cells.now.statements) ++ (summary_asks s c.args.table c.args.cells.now.transactions))) ≤ (g.H.Readable.seen c.empty_kind.new.rows).left = next_fits (summary_asks s c.args.table c.args.cells.now.waits) ((summary_asks s c.args.table c.args.cells.now.stages) ++ ((summary_asks s c.args.table c.args.cells.now.statements) ++ (summary_asks s c.args.table c.args.cells.now.transactions))) (g.H.Readable.seen c.args.rows.now).left (g.H.Readable.seen c.empty_kind.new.rows).left c.requires.spare c.empty_kind.ensures.stays.left in
+    let fits_2 : cost ((summary_asks s c.args.table c.args.cells.now.statements) ++ (summary_asks s c.args.table c.args.cells.now.transactions)) ≤ (g.H.Readable.seen c.empty_kind-2.new.rows).left = next_fits (summary_asks s c.args.table c.args.cells.now.stages) ((summary_asks s c.args.table c.args.cells.now.statements) ++ (summary_asks s c.args.table c.args.cells.now.transactions)) (g.H.Readable.seen c.empty_kind.new.rows).left (g.H.Readable.seen c.empty_kind-2.new.rows).left fits_1 c.empty_kind-2.ensures.stays.left in
+    let fits_3 : cost (summary_asks s c.args.table c.args.cells.now.transactions) ≤ (g.H.Readable.seen c.empty_kind-3.new.rows).left = next_fits (summary_asks s c.args.table c.args.cells.now.statements) (summary_asks s c.args.table c.args.cells.now.transactions) (g.H.Readable.seen c.empty_kind-2.new.rows).left (g.H.Readable.seen c.empty_kind-3.new.rows).left fits_2 c.empty_kind-3.ensures.stays.left in
     fits_3
 
 pub empty_kind-requires-clause-room : goal.empty_kind-requires-clause-room

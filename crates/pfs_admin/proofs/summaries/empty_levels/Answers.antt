@@ -8,12 +8,12 @@ use Rattle.pfs_admin.proofs.summaries.empty_levels.Goals as goal
 pub empty_lower-requires-clause-spare : goal.empty_lower-requires-clause-spare
 empty_lower-requires-clause-spare g c =
     let s = c.args.containers.now.now.places in
-    first_fits (lower_asks s c.args.reach c.args.cells.now) (upper_asks s c.args.reach c.args.cells.now) (g.H.Rows.seen c.args.rows.now).left c.requires.spare
+    first_fits (lower_asks s c.args.reach c.args.cells.now) (upper_asks s c.args.reach c.args.cells.now) (g.H.Readable.seen c.args.rows.now).left c.requires.spare
 
 pub empty_upper-requires-clause-spare : goal.empty_upper-requires-clause-spare
 empty_upper-requires-clause-spare g c =
     let s = c.args.containers.now.now.places in
-    let fits_1 : cost (upper_asks s c.args.reach c.args.cells.now) ≤ (g.H.Rows.seen c.empty_lower.new.rows).left = next_fits (lower_asks s c.args.reach c.args.cells.now) (upper_asks s c.args.reach c.args.cells.now) (g.H.Rows.seen c.args.rows.now).left (g.H.Rows.seen c.empty_lower.new.rows).left c.requires.spare c.empty_lower.ensures.stays.left in
+    let fits_1 : cost (upper_asks s c.args.reach c.args.cells.now) ≤ (g.H.Readable.seen c.empty_lower.new.rows).left = next_fits (lower_asks s c.args.reach c.args.cells.now) (upper_asks s c.args.reach c.args.cells.now) (g.H.Readable.seen c.args.rows.now).left (g.H.Readable.seen c.empty_lower.new.rows).left c.requires.spare c.empty_lower.ensures.stays.left in
     fits_1
 
 pub empty_lower-requires-clause-room : goal.empty_lower-requires-clause-room

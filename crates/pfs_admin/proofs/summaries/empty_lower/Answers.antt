@@ -9,12 +9,12 @@ use Rattle.pfs_admin.proofs.summaries.empty_lower.Goals as goal
 pub empty_level-requires-clause-spare : goal.empty_level-requires-clause-spare
 empty_level-requires-clause-spare g c =
     let s = c.args.containers.now.now.places in
-    first_fits (level_asks s c.args.cells.now levels.Thread) (emptied c.args.reach.accounts s c.args.cells.now levels.Account) (g.H.Rows.seen c.args.rows.now).left c.requires.spare
+    first_fits (level_asks s c.args.cells.now levels.Thread) (emptied c.args.reach.accounts s c.args.cells.now levels.Account) (g.H.Readable.seen c.args.rows.now).left c.requires.spare
 
 pub empty_level_if-requires-clause-spare : goal.empty_level_if-requires-clause-spare
 empty_level_if-requires-clause-spare g c =
     let s = c.args.containers.now.now.places in
-    let fits_1 : cost (emptied c.args.reach.accounts s c.args.cells.now levels.Account) ≤ (g.H.Rows.seen c.empty_level.new.rows).left = next_fits (level_asks s c.args.cells.now levels.Thread) (emptied c.args.reach.accounts s c.args.cells.now levels.Account) (g.H.Rows.seen c.args.rows.now).left (g.H.Rows.seen c.empty_level.new.rows).left c.requires.spare c.empty_level.ensures.stays.left in
+    let fits_1 : cost (emptied c.args.reach.accounts s c.args.cells.now levels.Account) ≤ (g.H.Readable.seen c.empty_level.new.rows).left = next_fits (level_asks s c.args.cells.now levels.Thread) (emptied c.args.reach.accounts s c.args.cells.now levels.Account) (g.H.Readable.seen c.args.rows.now).left (g.H.Readable.seen c.empty_level.new.rows).left c.requires.spare c.empty_level.ensures.stays.left in
     fits_1
 
 pub empty_level-requires-clause-room : goal.empty_level-requires-clause-room

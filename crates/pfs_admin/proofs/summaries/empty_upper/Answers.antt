@@ -9,12 +9,12 @@ use Rattle.pfs_admin.proofs.summaries.empty_upper.Goals as goal
 pub empty_level_if-requires-clause-spare : goal.empty_level_if-requires-clause-spare
 empty_level_if-requires-clause-spare g c =
     let s = c.args.containers.now.now.places in
-    first_fits (emptied c.args.reach.users s c.args.cells.now levels.User) (emptied c.args.reach.hosts s c.args.cells.now levels.Host ++ cleared c.args.reach.global c.args.cells.now) (g.H.Rows.seen c.args.rows.now).left c.requires.spare
+    first_fits (emptied c.args.reach.users s c.args.cells.now levels.User) (emptied c.args.reach.hosts s c.args.cells.now levels.Host ++ cleared c.args.reach.global c.args.cells.now) (g.H.Readable.seen c.args.rows.now).left c.requires.spare
 
 pub empty_beyond-requires-clause-spare : goal.empty_beyond-requires-clause-spare
 empty_beyond-requires-clause-spare g c =
     let s = c.args.containers.now.now.places in
-    let fits_1 : cost (emptied c.args.reach.hosts s c.args.cells.now levels.Host ++ cleared c.args.reach.global c.args.cells.now) ≤ (g.H.Rows.seen c.empty_level_if.new.rows).left = next_fits (emptied c.args.reach.users s c.args.cells.now levels.User) (emptied c.args.reach.hosts s c.args.cells.now levels.Host ++ cleared c.args.reach.global c.args.cells.now) (g.H.Rows.seen c.args.rows.now).left (g.H.Rows.seen c.empty_level_if.new.rows).left c.requires.spare c.empty_level_if.ensures.stays.left in
+    let fits_1 : cost (emptied c.args.reach.hosts s c.args.cells.now levels.Host ++ cleared c.args.reach.global c.args.cells.now) ≤ (g.H.Readable.seen c.empty_level_if.new.rows).left = next_fits (emptied c.args.reach.users s c.args.cells.now levels.User) (emptied c.args.reach.hosts s c.args.cells.now levels.Host ++ cleared c.args.reach.global c.args.cells.now) (g.H.Readable.seen c.args.rows.now).left (g.H.Readable.seen c.empty_level_if.new.rows).left c.requires.spare c.empty_level_if.ensures.stays.left in
     fits_1
 
 pub empty_level_if-requires-clause-room : goal.empty_level_if-requires-clause-room

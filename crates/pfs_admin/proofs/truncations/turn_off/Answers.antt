@@ -22,7 +22,7 @@ loop-table-preserved g c =
     let i = c.loop-table.table in
     record {
       did = changed_more off words 96 i 0 c.args.log.now c.loop-table.log c.flag.new.log _ _ _ refl c.loop-table.invariant.did
-          (subst (λ z. Did (flagging_calls z (flagging z (96 + i) 0)) (flagging_entries z (flagging z (96 + i) 0)) c.loop-table.log c.flag.new.log (g.H.Rows.seen c.loop-table.rows).reached (g.H.Rows.seen c.flag.new.rows).reached) c.loop-table.invariant.mine c.flag.ensures.did);
+          (subst (λ z. Did (flagging_calls z (flagging z (96 + i) 0)) (flagging_entries z (flagging z (96 + i) 0)) c.loop-table.log c.flag.new.log (g.H.Readable.seen c.loop-table.rows).reached (g.H.Readable.seen c.flag.new.rows).reached) c.loop-table.invariant.mine c.flag.ensures.did);
       mine = c.flag.ensures.mine ∙ (ap (λ (z : List Word). flagged z (96 + i) 0) c.loop-table.invariant.mine ∙ sym (changed_next off words 96 i));
       used = record {
         left = omega (arith, c.flag.ensures.used.left, c.loop-table.invariant.used.left);
@@ -37,7 +37,7 @@ loop-table-preserved g c =
 
 pub returns-clause-did : goal.returns-clause-did
 returns-clause-did g c =
-    subst (λ z. Did (flagging_calls c.args.words.now z) (flagging_entries c.args.words.now z) c.args.log.now c.loop-table.log (g.H.Rows.seen c.args.rows.now).reached (g.H.Rows.seen c.loop-table.rows).reached)
+    subst (λ z. Did (flagging_calls c.args.words.now z) (flagging_entries c.args.words.now z) c.args.log.now c.loop-table.log (g.H.Readable.seen c.args.rows.now).reached (g.H.Readable.seen c.loop-table.rows).reached)
     (flags_whole off c.args.words.now 96 c.loop-table.table 64 (omega arith)) c.loop-table.invariant.did
 
 pub returns-clause-mine : goal.returns-clause-mine

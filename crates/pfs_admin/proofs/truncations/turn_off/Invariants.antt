@@ -9,7 +9,7 @@ use Rattle.pfs_admin.proofs.truncations.turn_off.Given as goal
 abbrev pub invariant-loop-table : goal.invariant-loop-table
 invariant-loop-table g l =
     record {
-      did : Did (flagging_calls l.fn.words (up_to (change_at off l.fn.words 96) l.table)) (flagging_entries l.fn.words (up_to (change_at off l.fn.words 96) l.table)) l.fn.log l.log (g.H.Rows.seen l.fn.rows).reached (g.H.Rows.seen l.rows).reached;
+      did : Did (flagging_calls l.fn.words (up_to (change_at off l.fn.words 96) l.table)) (flagging_entries l.fn.words (up_to (change_at off l.fn.words 96) l.table)) l.fn.log l.log (g.H.Readable.seen l.fn.rows).reached (g.H.Readable.seen l.rows).reached;
       mine : l.words ≡ changed_up_to off l.fn.words 96 l.table;
-      used : Used 0 0 l.table (lent_as l.words (g.H.Rows.seen l.fn.rows)) (g.H.Rows.seen l.rows) l.fn.log l.log;
+      used : Used 0 0 l.table (lent_as l.words (g.H.Readable.seen l.fn.rows)) (g.H.Readable.seen l.rows) l.fn.log l.log;
     }

@@ -27,10 +27,10 @@ set_truncated-requires-clause-room g c =
 pub returns-clause-worked : goal.returns-clause-worked
 returns-clause-worked g c =
     let behind : c.free_truncated.new.containers ≡ kept_behind c.args.containers.now c.args.what = c.free_truncated.ensures in
-    let signed : Signed (truncation_signs (was_by c.of-before.result) (kept_behind c.args.containers.now c.args.what).now c.args.what) c.move_truncated.new.log c.sign_truncated.new.log (g.H.Rows.seen c.move_truncated.new.rows).reached (g.H.Rows.seen c.sign_truncated.new.rows).reached =
-    subst (λ (z : Kept). Signed (truncation_signs (was_by c.of-before.result) z.now c.args.what) c.move_truncated.new.log c.sign_truncated.new.log (g.H.Rows.seen c.move_truncated.new.rows).reached (g.H.Rows.seen c.sign_truncated.new.rows).reached) behind c.sign_truncated.ensures.signed in
+    let signed : Signed (truncation_signs (was_by c.of-before.result) (kept_behind c.args.containers.now c.args.what).now c.args.what) c.move_truncated.new.log c.sign_truncated.new.log (g.H.Readable.seen c.move_truncated.new.rows).reached (g.H.Readable.seen c.sign_truncated.new.rows).reached =
+    subst (λ (z : Kept). Signed (truncation_signs (was_by c.of-before.result) z.now c.args.what) c.move_truncated.new.log c.sign_truncated.new.log (g.H.Readable.seen c.move_truncated.new.rows).reached (g.H.Readable.seen c.sign_truncated.new.rows).reached) behind c.sign_truncated.ensures.signed in
     worked_all _ _ _ _ _ _ _ _ _ _ _ _ c.move_truncated.ensures.moved
-    (subst (λ z. Signed z c.move_truncated.new.log c.sign_truncated.new.log (g.H.Rows.seen c.move_truncated.new.rows).reached (g.H.Rows.seen c.sign_truncated.new.rows).reached)
+    (subst (λ z. Signed z c.move_truncated.new.log c.sign_truncated.new.log (g.H.Readable.seen c.move_truncated.new.rows).reached (g.H.Readable.seen c.sign_truncated.new.rows).reached)
     (signs_same c.args.containers.now.now.places c.of-before.result (kept_behind c.args.containers.now c.args.what).now c.args.what c.of-before.ensures) signed)
     c.set_truncated.ensures.did
 

@@ -23,7 +23,7 @@ connect-requires-clause-may g c =
     subst (λ (names : Option Connect). IfSome names (λ connect. MayConnect c.args.session.now.state g.A.Actor.setting connect.user connect.host)) c.in-Some.is c.requires.may
 
 pub connect-requires-clause-acts : goal.connect-requires-clause-acts
-connect-requires-clause-acts g c = may_act_passed 5 6 c.args.session.now.journal (g.A.Rows.seen c.args.actor.now) (g.A.Rows.seen c.pass.new.self) c.pass.ensures.goes c.pass.ensures.kept c.requires.acts
+connect-requires-clause-acts g c = may_act_passed 5 6 c.args.session.now.journal (g.A.Readable.seen c.args.actor.now) (g.A.Readable.seen c.pass.new.self) c.pass.ensures.goes c.pass.ensures.kept c.requires.acts
 
 pub returns-in-Some-clause-did : goal.returns-in-Some-clause-did
 returns-in-Some-clause-did g c setting answers =
@@ -32,9 +32,9 @@ returns-in-Some-clause-did g c setting answers =
     let host = c.in-Some.names.host in
     let old = c.args.session.now in
     let new = c.connect.new.session in
-    let was = (g.A.Rows.seen c.args.actor.now).reached in
-    let now = (g.A.Rows.seen c.connect.new.self).reached in
-    let mid = (g.A.Rows.seen c.pass.new.self).reached in
+    let was = (g.A.Readable.seen c.args.actor.now).reached in
+    let now = (g.A.Readable.seen c.connect.new.self).reached in
+    let mid = (g.A.Readable.seen c.pass.new.self).reached in
     let acted = acted_passed g.A.Actor.setting g.A.Actor.change (λ admin. Connecting admin user host) old new was mid now c.pass.ensures.goes c.connect.ensures.acted in
     let few = slots_found g.A.Actor.setting g.A.Actor.change user host old new was now acted c.requires.acts.begun in
     subst (λ (names : Option Connect). HasMet setting g.A.Actor.setting g.A.Actor.change (connect_selections names) (connecting names) false old new answers answers was now) (sym c.in-Some.is)
@@ -49,18 +49,18 @@ returns-in-Some-clause-actions g c =
 
 pub returns-in-Some-clause-used : goal.returns-in-Some-clause-used
 returns-in-Some-clause-used g c =
-    used_passed 5 0 6 c.args.session.now.journal c.connect.new.session.journal (g.A.Rows.seen c.args.actor.now) (g.A.Rows.seen c.pass.new.self) (g.A.Rows.seen c.connect.new.self) c.pass.ensures.kept c.connect.ensures.used
+    used_passed 5 0 6 c.args.session.now.journal c.connect.new.session.journal (g.A.Readable.seen c.args.actor.now) (g.A.Readable.seen c.pass.new.self) (g.A.Readable.seen c.connect.new.self) c.pass.ensures.kept c.connect.ensures.used
 
 pub returns-in-None-clause-did : goal.returns-in-None-clause-did
 returns-in-None-clause-did g c setting answers =
-    let was = (g.A.Rows.seen c.args.actor.now).reached in
-    let mid = (g.A.Rows.seen c.pass.new.self).reached in
+    let was = (g.A.Readable.seen c.args.actor.now).reached in
+    let mid = (g.A.Readable.seen c.pass.new.self).reached in
     subst (λ (names : Option Connect). HasMet setting g.A.Actor.setting g.A.Actor.change (connect_selections names) (connecting names) false c.args.session.now c.args.session.now answers answers was mid) (sym c.in-None.is)
     (met_passed setting g.A.Actor.setting g.A.Actor.change [] [] false c.args.session.now c.args.session.now answers answers was mid mid c.pass.ensures.goes
     (met_nothing setting g.A.Actor.setting g.A.Actor.change c.args.session.now answers mid))
 
 pub returns-in-None-clause-used : goal.returns-in-None-clause-used
-returns-in-None-clause-used g c = used_none 5 0 6 c.args.session.now.journal (g.A.Rows.seen c.args.actor.now) (g.A.Rows.seen c.pass.new.self) c.pass.ensures.kept
+returns-in-None-clause-used g c = used_none 5 0 6 c.args.session.now.journal (g.A.Readable.seen c.args.actor.now) (g.A.Readable.seen c.pass.new.self) c.pass.ensures.kept
 
 pub returns-in-None-clause-actions : goal.returns-in-None-clause-actions
 returns-in-None-clause-actions g c =

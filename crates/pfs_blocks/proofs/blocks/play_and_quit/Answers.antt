@@ -25,11 +25,11 @@ play_written-requires-clause-named g c =
     (subst (λ (l : List BlockLine). NamesLines g.A.Actor.change c.args.session.now.state.number c.args.session.now.state.actions l) (written_quit c.args.body.now) c.requires.named)
 
 pub play_written-requires-clause-ready : goal.play_written-requires-clause-ready
-play_written-requires-clause-ready g c = ready_lines c.args.body.now c.args.session.now (g.A.Rows.seen c.args.actor.now) c.requires.ready
+play_written-requires-clause-ready g c = ready_lines c.args.body.now c.args.session.now (g.A.Readable.seen c.args.actor.now) c.requires.ready
 
 pub quit-requires-clause-named : goal.quit-requires-clause-named
 quit-requires-clause-named g c =
-    (names_on g.A.Actor.change (written_out c.args.body.now) (said.Quit ∷ []) c.args.session.now c.play_written.new.session (g.A.Rows.seen c.args.actor.now) (g.A.Rows.seen c.play_written.new.actor)
+    (names_on g.A.Actor.change (written_out c.args.body.now) (said.Quit ∷ []) c.args.session.now c.play_written.new.session (g.A.Readable.seen c.args.actor.now) (g.A.Readable.seen c.play_written.new.actor)
     (subst (λ (l : List BlockLine). NamesLines g.A.Actor.change c.args.session.now.state.number c.args.session.now.state.actions l) (written_quit c.args.body.now) c.requires.named) c.in-Ok.ensures.advanced).0.0
 
 pub quit-requires-clause-closed : goal.quit-requires-clause-closed
@@ -39,15 +39,15 @@ quit-requires-clause-closed g c =
 
 pub quit-requires-clause-early : goal.quit-requires-clause-early
 quit-requires-clause-early g c =
-    quit_early c.args.body.now c.args.session.now c.play_written.new.session (g.A.Rows.seen c.args.actor.now) (g.A.Rows.seen c.play_written.new.actor) c.requires.ready c.in-Ok.ensures.advanced
+    quit_early c.args.body.now c.args.session.now c.play_written.new.session (g.A.Readable.seen c.args.actor.now) (g.A.Readable.seen c.play_written.new.actor) c.requires.ready c.in-Ok.ensures.advanced
 
 pub quit-requires-clause-acts : goal.quit-requires-clause-acts
 quit-requires-clause-acts g c =
     let played = c.in-Ok.ensures.played in
-    let was = g.A.Rows.seen c.args.actor.now in
-    let now = g.A.Rows.seen c.play_written.new.actor in
+    let was = g.A.Readable.seen c.args.actor.now in
+    let now = g.A.Readable.seen c.play_written.new.actor in
     let at = c.play_written.new.session in
-    may_act_passed (length (owed_by_state at.state) + 253) (settle_cost (owed_by_state at.state) + 254) at.journal now (g.A.Rows.seen c.pass.new.self) c.pass.ensures.goes c.pass.ensures.kept
+    may_act_passed (length (owed_by_state at.state) + 253) (settle_cost (owed_by_state at.state) + 254) at.journal now (g.A.Readable.seen c.pass.new.self) c.pass.ensures.goes c.pass.ensures.kept
     (quit_acts c.args.body.now c.args.session.now at was now c.requires.ready c.in-Ok.ensures.advanced
     (led_on g.A.Actor.setting g.A.Actor.change played.parts c.args.session.now at was.reached now.reached played.done c.requires.ready.begun))
 
@@ -58,8 +58,8 @@ returns-in-Ok-clause-did g c =
     record {
       over = true;
       did = met_quit c.args.setting.now g.A.Actor.setting g.A.Actor.change c.args.body.now c.args.session.now c.play_written.new.session c.quit.new.session c.args.answers.now.items c.play_written.new.answers.items
-          (g.A.Rows.seen c.args.actor.now).reached (g.A.Rows.seen c.play_written.new.actor).reached (g.A.Rows.seen c.quit.new.self).reached c.in-Ok.ensures.played
-          (acted_passed g.A.Actor.setting g.A.Actor.change Quitting c.play_written.new.session c.quit.new.session (g.A.Rows.seen c.play_written.new.actor).reached (g.A.Rows.seen c.pass.new.self).reached (g.A.Rows.seen c.quit.new.self).reached
+          (g.A.Readable.seen c.args.actor.now).reached (g.A.Readable.seen c.play_written.new.actor).reached (g.A.Readable.seen c.quit.new.self).reached c.in-Ok.ensures.played
+          (acted_passed g.A.Actor.setting g.A.Actor.change Quitting c.play_written.new.session c.quit.new.session (g.A.Readable.seen c.play_written.new.actor).reached (g.A.Readable.seen c.pass.new.self).reached (g.A.Readable.seen c.quit.new.self).reached
           c.pass.ensures.goes c.quit.ensures.acted) closed;
     }
 
@@ -73,7 +73,7 @@ returns-in-Ok-clause-wide g c = ap (λ (s : State). length s.held) c.quit.ensure
 
 pub returns-in-Ok-clause-within : goal.returns-in-Ok-clause-within
 returns-in-Ok-clause-within g c =
-    quit_within c.args.body.now c.args.session.now c.play_written.new.session c.quit.new.session (g.A.Rows.seen c.args.actor.now) (g.A.Rows.seen c.play_written.new.actor) (g.A.Rows.seen c.quit.new.self) c.in-Ok.ensures.advanced
+    quit_within c.args.body.now c.args.session.now c.play_written.new.session c.quit.new.session (g.A.Readable.seen c.args.actor.now) (g.A.Readable.seen c.play_written.new.actor) (g.A.Readable.seen c.quit.new.self) c.in-Ok.ensures.advanced
     c.quit.ensures.rest
     (used_passed (length (owed_by_state c.play_written.new.session.state) + 253) 0 (settle_cost (owed_by_state c.play_written.new.session.state) + 254) c.play_written.new.session.journal c.quit.new.session.journal
-    (g.A.Rows.seen c.play_written.new.actor) (g.A.Rows.seen c.pass.new.self) (g.A.Rows.seen c.quit.new.self) c.pass.ensures.kept c.quit.ensures.used)
+    (g.A.Readable.seen c.play_written.new.actor) (g.A.Readable.seen c.pass.new.self) (g.A.Readable.seen c.quit.new.self) c.pass.ensures.kept c.quit.ensures.used)

@@ -22,7 +22,7 @@ pub connect_by-requires-clause-named : goal.connect_by-requires-clause-named
 connect_by-requires-clause-named g c = connect_named g.A.Actor.change c.args.session.state.number c.args.session.state.actions c.args.block.now c.requires.named
 
 pub connect_by-requires-clause-acts : goal.connect_by-requires-clause-acts
-connect_by-requires-clause-acts g c = ready_connect c.args.block.now c.args.session (g.A.Rows.seen c.args.actor.now) c.requires.ready
+connect_by-requires-clause-acts g c = ready_connect c.args.block.now c.args.session (g.A.Readable.seen c.args.actor.now) c.requires.ready
 
 pub play_to_end-requires-clause-may : goal.play_to_end-requires-clause-may
 play_to_end-requires-clause-may g c =
@@ -49,8 +49,8 @@ play_to_end-requires-clause-wide g c = ap (λ (s : State). length s.held) c.conn
 
 pub play_to_end-requires-clause-ready : goal.play_to_end-requires-clause-ready
 play_to_end-requires-clause-ready g c =
-    let was = g.A.Rows.seen c.args.actor.now in
-    let now = g.A.Rows.seen c.connect_by.new.actor in
+    let was = g.A.Readable.seen c.args.actor.now in
+    let now = g.A.Readable.seen c.connect_by.new.actor in
     let connected : IsConnected c.args.session c.connect_by.new.session was now =
     record { rest = c.connect_by.ensures.rest; actions = connect_least c.args.block.now.connect c.args.session.state.actions c.connect_by.new.session.state.actions c.connect_by.ensures.actions; used = c.connect_by.ensures.used } in
     let did = c.connect_by.ensures.did c.args.setting.now c.args.answers.now.items in
@@ -59,9 +59,9 @@ play_to_end-requires-clause-ready g c =
 
 pub pause-requires : goal.pause-requires
 pause-requires g c =
-    let was = g.A.Rows.seen c.args.actor.now in
-    let mid = g.A.Rows.seen c.connect_by.new.actor in
-    let now = g.A.Rows.seen c.play_to_end.new.actor in
+    let was = g.A.Readable.seen c.args.actor.now in
+    let mid = g.A.Readable.seen c.connect_by.new.actor in
+    let now = g.A.Readable.seen c.play_to_end.new.actor in
     let connected : IsConnected c.args.session c.connect_by.new.session was mid =
     record { rest = c.connect_by.ensures.rest; actions = connect_least c.args.block.now.connect c.args.session.state.actions c.connect_by.new.session.state.actions c.connect_by.ensures.actions; used = c.connect_by.ensures.used } in
     let within : Within (need_to_end c.args.block.now.lines) c.connect_by.new.session c.play_to_end.new.session mid now =
@@ -77,14 +77,14 @@ returns-in-Ok-clause-did g c =
     let setting = c.args.setting.now in
     let answers = c.args.answers.now.items in
     let behind = c.play_to_end.new.answers.items in
-    let from = (g.A.Rows.seen c.connect_by.new.actor).reached in
-    let to = (g.A.Rows.seen c.play_to_end.new.actor).reached in
+    let from = (g.A.Readable.seen c.connect_by.new.actor).reached in
+    let to = (g.A.Readable.seen c.play_to_end.new.actor).reached in
     let said : List BlockLine = c.args.block.now.lines in
     let lines : HasMet setting g.A.Actor.setting g.A.Actor.change (map selection_on (written_out said)) (asks_on (written_out said)) p.over one two answers behind from to =
     subst (λ (l : List BlockLine). HasMet setting g.A.Actor.setting g.A.Actor.change (map selection_on (written_out l)) (asks_on (written_out l)) p.over one two answers behind from to) c.as_slice.ensures p.did in
     record {
       over = p.over;
-      did = met_block setting g.A.Actor.setting g.A.Actor.change c.args.block.now.connect said p.over old one two c.pause.result answers behind (g.A.Rows.seen c.args.actor.now).reached from to (g.A.Rows.seen c.pause.new.self).reached
+      did = met_block setting g.A.Actor.setting g.A.Actor.change c.args.block.now.connect said p.over old one two c.pause.result answers behind (g.A.Readable.seen c.args.actor.now).reached from to (g.A.Readable.seen c.pause.new.self).reached
           (c.connect_by.ensures.did setting answers) lines c.pause.ensures.played;
     }
 
@@ -101,11 +101,11 @@ returns-in-Ok-clause-free g c = ap (λ (s : State). s.held) c.pause.ensures.stat
 
 pub returns-in-Ok-clause-within : goal.returns-in-Ok-clause-within
 returns-in-Ok-clause-within g c =
-    let was = g.A.Rows.seen c.args.actor.now in
-    let mid = g.A.Rows.seen c.connect_by.new.actor in
-    let now = g.A.Rows.seen c.play_to_end.new.actor in
+    let was = g.A.Readable.seen c.args.actor.now in
+    let mid = g.A.Readable.seen c.connect_by.new.actor in
+    let now = g.A.Readable.seen c.play_to_end.new.actor in
     let connected : IsConnected c.args.session c.connect_by.new.session was mid =
     record { rest = c.connect_by.ensures.rest; actions = connect_least c.args.block.now.connect c.args.session.state.actions c.connect_by.new.session.state.actions c.connect_by.ensures.actions; used = c.connect_by.ensures.used } in
     let within : Within (need_to_end c.args.block.now.lines) c.connect_by.new.session c.play_to_end.new.session mid now =
     subst (λ (l : List BlockLine). Within (need_to_end l) c.connect_by.new.session c.play_to_end.new.session mid now) c.as_slice.ensures c.in-Ok.ensures.within in
-    block_within c.args.block.now c.args.session c.connect_by.new.session c.play_to_end.new.session c.pause.result was mid now (g.A.Rows.seen c.pause.new.self) connected within c.in-Ok.ensures.wide c.pause.ensures.state c.pause.ensures.used
+    block_within c.args.block.now c.args.session c.connect_by.new.session c.play_to_end.new.session c.pause.result was mid now (g.A.Readable.seen c.pause.new.self) connected within c.in-Ok.ensures.wide c.pause.ensures.state c.pause.ensures.used

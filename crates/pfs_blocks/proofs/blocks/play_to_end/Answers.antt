@@ -22,11 +22,11 @@ play_and_quit-requires-clause-named g c =
 
 pub play_and_quit-requires-clause-ready : goal.play_and_quit-requires-clause-ready
 play_and_quit-requires-clause-ready g c =
-    ready_before c.in-Some.body.now c.args.session.now (g.A.Rows.seen c.args.actor.now)
-    (subst (λ (l : List BlockLine). Ready (need_to_end l) c.args.session.now (g.A.Rows.seen c.args.actor.now)) c.in-Some.ensures c.requires.ready)
+    ready_before c.in-Some.body.now c.args.session.now (g.A.Readable.seen c.args.actor.now)
+    (subst (λ (l : List BlockLine). Ready (need_to_end l) c.args.session.now (g.A.Readable.seen c.args.actor.now)) c.in-Some.ensures c.requires.ready)
 
 pub play_written-requires-clause-ready : goal.play_written-requires-clause-ready
-play_written-requires-clause-ready g c = ready_lines c.args.lines.now c.args.session.now (g.A.Rows.seen c.args.actor.now) c.requires.ready
+play_written-requires-clause-ready g c = ready_lines c.args.lines.now c.args.session.now (g.A.Readable.seen c.args.actor.now) c.requires.ready
 
 pub play_written-requires-clause-may : goal.play_written-requires-clause-may
 play_written-requires-clause-may g c = goes_on c.args.session.now.state.opened.depth (kinds_at c.args.session.now.state) c.args.lines.now c.requires.may c.in-None.ensures
@@ -35,7 +35,7 @@ pub returns-in-Some-clause-did : goal.returns-in-Some-clause-did
 returns-in-Some-clause-did g c =
     on_ok_weaker c.play_and_quit.result
     (subst (λ (l : List BlockLine). HasEnded c.args.setting.now g.A.Actor.setting g.A.Actor.change l c.args.session.now c.play_and_quit.new.session c.args.answers.now.items c.play_and_quit.new.answers.items
-    (g.A.Rows.seen c.args.actor.now).reached (g.A.Rows.seen c.play_and_quit.new.actor).reached) (sym c.in-Some.ensures))
+    (g.A.Readable.seen c.args.actor.now).reached (g.A.Readable.seen c.play_and_quit.new.actor).reached) (sym c.in-Some.ensures))
     c.play_and_quit.ensures.did
 
 pub returns-in-Some-clause-kinds : goal.returns-in-Some-clause-kinds
@@ -55,21 +55,21 @@ returns-in-None-clause-did g c =
     (λ played. record {
       over = false;
       did = met_lines c.args.setting.now g.A.Actor.setting g.A.Actor.change (written_out c.args.lines.now) c.args.session.now c.play_written.new.session c.args.answers.now.items c.play_written.new.answers.items
-          (g.A.Rows.seen c.args.actor.now).reached (g.A.Rows.seen c.play_written.new.actor).reached played;
+          (g.A.Readable.seen c.args.actor.now).reached (g.A.Readable.seen c.play_written.new.actor).reached played;
     })
     c.play_written.ensures.played
 
 pub returns-in-Some-clause-within : goal.returns-in-Some-clause-within
 returns-in-Some-clause-within g c =
     on_ok_weaker c.play_and_quit.result
-    (λ within. subst (λ (l : List BlockLine). Within (need_to_end l) c.args.session.now c.play_and_quit.new.session (g.A.Rows.seen c.args.actor.now) (g.A.Rows.seen c.play_and_quit.new.actor)) (sym c.in-Some.ensures)
-    (within_behind c.in-Some.body.now c.args.session.now c.play_and_quit.new.session (g.A.Rows.seen c.args.actor.now) (g.A.Rows.seen c.play_and_quit.new.actor) within))
+    (λ within. subst (λ (l : List BlockLine). Within (need_to_end l) c.args.session.now c.play_and_quit.new.session (g.A.Readable.seen c.args.actor.now) (g.A.Readable.seen c.play_and_quit.new.actor)) (sym c.in-Some.ensures)
+    (within_behind c.in-Some.body.now c.args.session.now c.play_and_quit.new.session (g.A.Readable.seen c.args.actor.now) (g.A.Readable.seen c.play_and_quit.new.actor) within))
     c.play_and_quit.ensures.within
 
 pub returns-in-None-clause-within : goal.returns-in-None-clause-within
 returns-in-None-clause-within g c =
     on_ok_weaker c.play_written.result
-    (λ advanced. lines_within c.args.lines.now c.args.session.now c.play_written.new.session (g.A.Rows.seen c.args.actor.now) (g.A.Rows.seen c.play_written.new.actor) advanced)
+    (λ advanced. lines_within c.args.lines.now c.args.session.now c.play_written.new.session (g.A.Readable.seen c.args.actor.now) (g.A.Readable.seen c.play_written.new.actor) advanced)
     c.play_written.ensures.advanced
 
 pub returns-in-None-clause-wide : goal.returns-in-None-clause-wide

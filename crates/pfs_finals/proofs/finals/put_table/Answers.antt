@@ -20,9 +20,9 @@ returns-in_err-readings-clause-stopped g c = on_err _ c.in_err-readings.ensures.
 pub returns-in_err-shown-clause-stopped : goal.returns-in_err-shown-clause-stopped
 returns-in_err-shown-clause-stopped g c =
     let read = c.in_ok-readings.ensures in
-    on_err _ (whole_in_part c.args.setting.now c.args.table c.in_ok-readings.readings (g.R.Rows.seen c.args.rows.now).reached (g.R.Rows.seen c.read_table.new.rows).reached read.read read.calls)
+    on_err _ (whole_in_part c.args.setting.now c.args.table c.in_ok-readings.readings (g.R.Readable.seen c.args.rows.now).reached (g.R.Readable.seen c.read_table.new.rows).reached read.read read.calls)
 
 pub returns-clause-stopped : goal.returns-clause-stopped
 returns-clause-stopped g c =
     let read = c.in_ok-readings.ensures in
-    on_err c.add_table.result (whole_in_part c.args.setting.now c.args.table c.in_ok-readings.readings (g.R.Rows.seen c.args.rows.now).reached (g.R.Rows.seen c.read_table.new.rows).reached read.read read.calls)
+    on_err c.add_table.result (whole_in_part c.args.setting.now c.args.table c.in_ok-readings.readings (g.R.Readable.seen c.args.rows.now).reached (g.R.Readable.seen c.read_table.new.rows).reached read.read read.calls)

@@ -14,8 +14,8 @@ flush_cells-requires-clause-away g c =
     let ss = sources_of c.args.places.now c.args.level in
     let s = c.source.result in
     let low : c.loop-at.at < length ss = omega (arith, c.loop-at-test.true, c.count-at-end.ensures) in
-    away_now (g.H.Rows.seen c.args.rows.now).hand (g.H.Rows.seen c.loop-at.rows).hand c.cells-cells.result.now s c.loop-at.invariant.stays.hand
-    (away_as (g.H.Rows.seen c.args.rows.now).hand (cells_of c.args.places.now c.args.kind) c.cells-cells.result.now (slice_index_or ss c.loop-at.at s) s (sym c.cells-cells.ensures) (sym (c.source.ensures s)) (c.requires.away c.loop-at.at s low))
+    away_now (g.H.Readable.seen c.args.rows.now).hand (g.H.Readable.seen c.loop-at.rows).hand c.cells-cells.result.now s c.loop-at.invariant.stays.hand
+    (away_as (g.H.Readable.seen c.args.rows.now).hand (cells_of c.args.places.now c.args.kind) c.cells-cells.result.now (slice_index_or ss c.loop-at.at s) s (sym c.cells-cells.ensures) (sym (c.source.ensures s)) (c.requires.away c.loop-at.at s low))
 
 pub flush_cells-requires-clause-spare : goal.flush_cells-requires-clause-spare
 flush_cells-requires-clause-spare g c =
@@ -23,7 +23,7 @@ flush_cells-requires-clause-spare g c =
     let k = asks_of (cells_of c.args.places.now c.args.kind) in
     let i = c.loop-at.at in
     let low : i < length ss = omega (arith, c.loop-at-test.true, c.count-at-end.ensures) in
-    enough (flat_map k (take i ss)) (asks_of c.cells-cells.result.now c.source.result) (flat_map k (take (i + 1) ss)) (flat_map k ss) (g.H.Rows.seen c.args.rows.now).left (g.H.Rows.seen c.loop-at.rows).left
+    enough (flat_map k (take i ss)) (asks_of c.cells-cells.result.now c.source.result) (flat_map k (take (i + 1) ss)) (flat_map k ss) (g.H.Readable.seen c.args.rows.now).left (g.H.Readable.seen c.loop-at.rows).left
     (sources_more_at _ c.cells-cells.result.now ss i c.source.result low (sym c.cells-cells.ensures) (c.source.ensures c.source.result)) (sources_fit k ss (i + 1)) c.requires.spare c.loop-at.invariant.stays.left
 
 pub flush_cells-requires-clause-room : goal.flush_cells-requires-clause-room

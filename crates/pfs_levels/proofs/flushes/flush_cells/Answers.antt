@@ -12,7 +12,7 @@ move_up-requires-clause-spare g c =
     let to = targets_of c.targets-to.result in
     omega (
       arith,
-      enough (map f (take i cells)) (ask c.row_from-from.result to ∷ []) (map f (take (i + 1) cells)) (map f cells) (g.H.Rows.seen c.args.rows.now).left (g.H.Rows.seen c.loop-cell.rows).left
+      enough (map f (take i cells)) (ask c.row_from-from.result to ∷ []) (map f (take (i + 1) cells)) (map f cells) (g.H.Readable.seen c.args.rows.now).left (g.H.Readable.seen c.loop-cell.rows).left
           (cells_more f cells i c.row_from-from.result to c.loop-cell-test.true c.row_from-from.ensures c.targets-to.ensures) (cells_fit f cells (i + 1)) c.requires.spare c.loop-cell.invariant.stays.left,
     )
 

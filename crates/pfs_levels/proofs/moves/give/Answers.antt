@@ -8,9 +8,9 @@ pub returns-clause-given : goal.returns-clause-given
 returns-clause-given g c =
     let t = c.take.result in
     let v = c.put-version.result in
-    let was = (g.H.Rows.seen c.args.rows.now).reached in
-    let mid = (g.H.Rows.seen c.take.new.self).reached in
-    let now = (g.H.Rows.seen c.put-version.new.self).reached in
+    let was = (g.H.Readable.seen c.args.rows.now).reached in
+    let mid = (g.H.Readable.seen c.take.new.self).reached in
+    let now = (g.H.Readable.seen c.put-version.new.self).reached in
     let sum : List ℕ = merged t.1 c.args.amount.now in
     record {
       gifts = record { to = c.args.to; before = t.0; version = v; there = t.1 } ∷ [];

@@ -15,8 +15,8 @@ returns-clause-run g c = λ fixed change. end_ran fixed change c.args.numbers.no
 
 pub returns-clause-wide : goal.returns-clause-wide
 returns-clause-wide g c =
-    played_wide _ c.stage.new.self c.end.new.self (g.R.Rows.seen c.stage.new.rows).reached (g.R.Rows.seen c.end.new.rows).reached c.end.ensures.played
-    (played_wide _ c.args.session.now c.stage.new.self (g.R.Rows.seen c.args.rows.now).reached (g.R.Rows.seen c.stage.new.rows).reached c.stage.ensures.played c.requires.wide)
+    played_wide _ c.stage.new.self c.end.new.self (g.R.Readable.seen c.stage.new.rows).reached (g.R.Readable.seen c.end.new.rows).reached c.end.ensures.played
+    (played_wide _ c.args.session.now c.stage.new.self (g.R.Readable.seen c.args.rows.now).reached (g.R.Readable.seen c.stage.new.rows).reached c.stage.ensures.played c.requires.wide)
 
 pub returns-clause-used : goal.returns-clause-used
 returns-clause-used g c = record {

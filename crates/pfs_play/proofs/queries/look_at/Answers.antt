@@ -11,7 +11,7 @@ pub loop-reading-init : goal.loop-reading-init
 loop-reading-init g c =
     rw c.new-readings.ensures.items (record {
       reached = c.open-reader.ensures;
-      played = played_none c.args.session.now (g.R.Rows.seen c.args.rows.now).reached;
+      played = played_none c.args.session.now (g.R.Readable.seen c.args.rows.now).reached;
       state = refl;
       used = record { left = omega arith; draws = omega arith; no_more = omega arith; hand = λ r. refl; words = refl; name = refl; room = omega arith };
     })
@@ -39,7 +39,7 @@ loop-reading-preserved g c =
     let long : length (items ++ c.in-Some.reading ∷ []) ≡ length items + 1 = length-append items (c.in-Some.reading ∷ []) in
     rw c.in_ok-push.ensures.items (record {
       reached = now.reached (scope_of c.args.setting.now) c.args.table items before.reached;
-      played = look_more items c.in-Some.reading c.args.session.now c.loop-reading.session c.look.new.self (g.R.Rows.seen c.args.rows.now).reached (g.R.Rows.seen c.loop-reading.rows).reached (g.R.Rows.seen c.look.new.rows).reached before.played now.played;
+      played = look_more items c.in-Some.reading c.args.session.now c.loop-reading.session c.look.new.self (g.R.Readable.seen c.args.rows.now).reached (g.R.Readable.seen c.loop-reading.rows).reached (g.R.Readable.seen c.look.new.rows).reached before.played now.played;
       state = now.state ∙ before.state;
       used = record {
         left = omega (arith, before.used.left, now.used.left);
@@ -57,7 +57,7 @@ returns-clause-whole g c = rw c.new.ensures (c.in_default.ensures.next (scope_of
 
 pub returns-clause-played : goal.returns-clause-played
 returns-clause-played g c =
-    rw c.new.ensures (look_last c.loop-reading.readings.items c.args.session.now c.loop-reading.session c.look.new.self (g.R.Rows.seen c.args.rows.now).reached (g.R.Rows.seen c.loop-reading.rows).reached (g.R.Rows.seen c.look.new.rows).reached c.loop-reading.invariant.played c.in_default.ensures.played)
+    rw c.new.ensures (look_last c.loop-reading.readings.items c.args.session.now c.loop-reading.session c.look.new.self (g.R.Readable.seen c.args.rows.now).reached (g.R.Readable.seen c.loop-reading.rows).reached (g.R.Readable.seen c.look.new.rows).reached c.loop-reading.invariant.played c.in_default.ensures.played)
 
 pub returns-clause-used : goal.returns-clause-used
 returns-clause-used g c =

@@ -9,9 +9,9 @@ use Rattle.pfs_play.proofs.queries.look_at.Given as goal
 abbrev pub invariant-loop-reading : goal.invariant-loop-reading
 invariant-loop-reading g l = record {
   reached : Reached l.reader (scope_of l.setting) l.fn.table l.readings.items;
-  played : Played (looks l.readings.items) l.fn.session l.session (g.R.Rows.seen l.fn.rows).reached (g.R.Rows.seen l.rows).reached;
+  played : Played (looks l.readings.items) l.fn.session l.session (g.R.Readable.seen l.fn.rows).reached (g.R.Readable.seen l.rows).reached;
   state : l.session.state ≡ l.fn.session.state;
-  used : Used 0 0 (length l.readings.items) (g.R.Rows.seen l.fn.rows) (g.R.Rows.seen l.rows) l.fn.session.journal l.session.journal;
+  used : Used 0 0 (length l.readings.items) (g.R.Readable.seen l.fn.rows) (g.R.Readable.seen l.rows) l.fn.session.journal l.session.journal;
 }
 
 abbrev pub decreases-loop-reading : goal.decreases-loop-reading

@@ -19,14 +19,14 @@ returns-clause-run g c =
     let readings : List Reading = c.in_ok-readings.readings in
     let answer : Answer = c.in_ok-answer.answer in
     let listed : c.in_ok-shown.shown ≡ listed_rows c.args.setting.now c.args.what.table readings = c.in_ok-shown.ensures.rows ∙ ap (listed_rows c.args.setting.now c.args.what.table) c.as_slice.ensures in
-    let begin : Played (remark Query ∷ []) c.args.session.now c.append.new.self (g.R.Rows.seen c.args.rows.now).reached (g.R.Rows.seen c.args.rows.now).reached =
-    remarked Query c.args.session.now c.append.new.self (g.R.Rows.seen c.args.rows.now).reached c.append.ensures.does c.append.ensures.entries in
-    let end : Played (remark (Rows (length answer)) ∷ []) c.look_at.new.session c.append-2.new.self (g.R.Rows.seen c.look_at.new.rows).reached (g.R.Rows.seen c.look_at.new.rows).reached =
-    subst (λ (n : ℕ). Played (remark (Rows n) ∷ []) c.look_at.new.session c.append-2.new.self (g.R.Rows.seen c.look_at.new.rows).reached (g.R.Rows.seen c.look_at.new.rows).reached) (ap length c.as_slice-2.ensures)
-    (remarked (Rows (length c.as_slice-2.result.now)) c.look_at.new.session c.append-2.new.self (g.R.Rows.seen c.look_at.new.rows).reached c.append-2.ensures.does c.append-2.ensures.entries) in
-    λ fixed change. query_ran c.args.setting.now fixed change c.args.what readings answer c.args.session.now c.append-2.new.self c.args.answers.now.items c.push.new.self.items (g.R.Rows.seen c.args.rows.now).reached (g.R.Rows.seen c.look_at.new.rows).reached
+    let begin : Played (remark Query ∷ []) c.args.session.now c.append.new.self (g.R.Readable.seen c.args.rows.now).reached (g.R.Readable.seen c.args.rows.now).reached =
+    remarked Query c.args.session.now c.append.new.self (g.R.Readable.seen c.args.rows.now).reached c.append.ensures.does c.append.ensures.entries in
+    let end : Played (remark (Rows (length answer)) ∷ []) c.look_at.new.session c.append-2.new.self (g.R.Readable.seen c.look_at.new.rows).reached (g.R.Readable.seen c.look_at.new.rows).reached =
+    subst (λ (n : ℕ). Played (remark (Rows n) ∷ []) c.look_at.new.session c.append-2.new.self (g.R.Readable.seen c.look_at.new.rows).reached (g.R.Readable.seen c.look_at.new.rows).reached) (ap length c.as_slice-2.ensures)
+    (remarked (Rows (length c.as_slice-2.result.now)) c.look_at.new.session c.append-2.new.self (g.R.Readable.seen c.look_at.new.rows).reached c.append-2.ensures.does c.append-2.ensures.entries) in
+    λ fixed change. query_ran c.args.setting.now fixed change c.args.what readings answer c.args.session.now c.append-2.new.self c.args.answers.now.items c.push.new.self.items (g.R.Readable.seen c.args.rows.now).reached (g.R.Readable.seen c.look_at.new.rows).reached
     c.in_ok-readings.ensures.whole (subst (λ (rows : Answer). IsAnswer c.args.what rows answer) listed c.in_ok-answer.ensures) c.in_ok-push.ensures.items
-    (queried readings (length answer) c.args.session.now c.append.new.self c.look_at.new.session c.append-2.new.self (g.R.Rows.seen c.args.rows.now).reached (g.R.Rows.seen c.look_at.new.rows).reached begin c.in_ok-readings.ensures.played end)
+    (queried readings (length answer) c.args.session.now c.append.new.self c.look_at.new.session c.append-2.new.self (g.R.Readable.seen c.args.rows.now).reached (g.R.Readable.seen c.look_at.new.rows).reached begin c.in_ok-readings.ensures.played end)
 
 pub returns-clause-used : goal.returns-clause-used
 returns-clause-used g c =

@@ -22,7 +22,7 @@ show_held-requires-clause-acts g c =
 
 pub returns-clause-run : goal.returns-clause-run
 returns-clause-run g c = λ setting.
-    show_ran setting g.A.Actor.setting g.A.Actor.change c.args.what c.in_ok-answer.answer c.args.session.now c.show_held.new.session c.args.answers.now.items c.push.new.self.items (g.A.Rows.seen c.args.actor.now).reached (g.A.Rows.seen c.show_held.new.self).reached
+    show_ran setting g.A.Actor.setting g.A.Actor.change c.args.what c.in_ok-answer.answer c.args.session.now c.show_held.new.session c.args.answers.now.items c.push.new.self.items (g.A.Readable.seen c.args.actor.now).reached (g.A.Readable.seen c.show_held.new.self).reached
     c.in_ok-push.ensures.items c.in_ok-answer.ensures.shown
 
 pub returns-clause-owed : goal.returns-clause-owed

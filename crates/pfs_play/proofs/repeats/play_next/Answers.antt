@@ -17,7 +17,7 @@ play_repeat-requires-clause-may g c = (begun 62 c.args.session.now.state.opened.
 pub play_repeat-requires-clause-ready : goal.play_repeat-requires-clause-ready
 play_repeat-requires-clause-ready g c =
     let b = begun 62 c.args.session.now.state.opened.depth (kinds_at c.args.session.now.state) c.in-Some-times_of.times c.args.lines.now c.in-Some.first.now c.in-Some.others.now c.in-Some.ensures.cases.0 (sym c.times_of.ensures ∙ c.in-Some-times_of.is) c.requires.may in
-    subst (λ (z : List BlockLine). Ready (need_on z) c.args.session.now (g.A.Rows.seen c.args.actor.now)) b.written c.requires.ready
+    subst (λ (z : List BlockLine). Ready (need_on z) c.args.session.now (g.A.Readable.seen c.args.actor.now)) b.written c.requires.ready
 
 pub play_repeat-requires-clause-named : goal.play_repeat-requires-clause-named
 play_repeat-requires-clause-named g c =
@@ -35,8 +35,8 @@ play_lines-requires-clause-can g c = (played 62 c.args.session.now.state.opened.
 pub play_lines-requires-clause-ready : goal.play_lines-requires-clause-ready
 play_lines-requires-clause-ready g c =
     let p = played 62 c.args.session.now.state.opened.depth (kinds_at c.args.session.now.state) c.args.lines.now c.in-Some.first.now c.in-Some.others.now c.in-Some.ensures.cases.0 (sym c.times_of.ensures ∙ c.in-None.is) c.requires.may in
-    let all = subst (λ (z : List BlockLine). Ready (need_on z) c.args.session.now (g.A.Rows.seen c.args.actor.now)) p.written c.requires.ready in
-    ready_front (take 1 c.args.lines.now) (written_out (drop 1 c.args.lines.now)) c.args.session.now (g.A.Rows.seen c.args.actor.now) all
+    let all = subst (λ (z : List BlockLine). Ready (need_on z) c.args.session.now (g.A.Readable.seen c.args.actor.now)) p.written c.requires.ready in
+    ready_front (take 1 c.args.lines.now) (written_out (drop 1 c.args.lines.now)) c.args.session.now (g.A.Readable.seen c.args.actor.now) all
 
 pub returns-in-Ok-clause-gone : goal.returns-in-Ok-clause-gone
 returns-in-Ok-clause-gone g c =

@@ -21,8 +21,8 @@ play_times-requires-clause-same g c = (rounds_at 62 c.args.session.now.state.ope
 pub play_times-requires-clause-ready : goal.play_times-requires-clause-ready
 play_times-requires-clause-ready g c =
     let r = rounds_at 62 c.args.session.now.state.opened.depth (kinds_at c.args.session.now.state) c.args.times c.in-Some.end c.args.lines.now (sym c.done_in.ensures ∙ c.in-Some.is) c.requires.may in
-    let all = subst (λ (z : List BlockLine). Ready (need_on z) c.args.session.now (g.A.Rows.seen c.args.actor.now)) r.written c.requires.ready in
-    ready_front (copies c.args.times (take c.in-Some.end c.args.lines.now)) (written_out (drop (c.in-Some.end + 1) c.args.lines.now)) c.args.session.now (g.A.Rows.seen c.args.actor.now) all
+    let all = subst (λ (z : List BlockLine). Ready (need_on z) c.args.session.now (g.A.Readable.seen c.args.actor.now)) r.written c.requires.ready in
+    ready_front (copies c.args.times (take c.in-Some.end c.args.lines.now)) (written_out (drop (c.in-Some.end + 1) c.args.lines.now)) c.args.session.now (g.A.Readable.seen c.args.actor.now) all
 
 pub play_times-requires-clause-named : goal.play_times-requires-clause-named
 play_times-requires-clause-named g c =
@@ -41,7 +41,7 @@ play_lines-requires-clause-can g c = can_open 62 c.args.session.now.state.opened
 pub play_lines-requires-clause-ready : goal.play_lines-requires-clause-ready
 play_lines-requires-clause-ready g c =
     let written : repeated c.args.times c.args.lines.now ≡ c.args.lines.now = written_open c.args.times c.args.lines.now (not_found c.args.lines.now (sym c.done_in.ensures ∙ c.in-None.is)) in
-    subst (λ (z : List BlockLine). Ready (need_on z) c.args.session.now (g.A.Rows.seen c.args.actor.now)) written c.requires.ready
+    subst (λ (z : List BlockLine). Ready (need_on z) c.args.session.now (g.A.Readable.seen c.args.actor.now)) written c.requires.ready
 
 pub returns-in-Ok-clause-count : goal.returns-in-Ok-clause-count
 returns-in-Ok-clause-count g c = (rounds_at 62 c.args.session.now.state.opened.depth (kinds_at c.args.session.now.state) c.args.times c.in-Some.end c.args.lines.now (sym c.done_in.ensures ∙ c.in-Some.is) c.requires.may).count

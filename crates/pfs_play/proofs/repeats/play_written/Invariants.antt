@@ -9,7 +9,7 @@ abbrev pub invariant-loop-at : goal.invariant-loop-at
 invariant-loop-at g l = record {
   count : l.at ≤ length l.lines;
   may : AllMayPlay 62 l.session.state.opened.depth (kinds_at l.session.state) None (drop l.at l.lines);
-  gone : HaveGone l.setting g.A.Actor.setting g.A.Actor.change (written_out l.lines) (written_out (drop l.at l.lines)) l.fn.session l.session l.fn.answers.items l.answers.items (g.A.Rows.seen l.fn.actor) (g.A.Rows.seen l.actor);
+  gone : HaveGone l.setting g.A.Actor.setting g.A.Actor.change (written_out l.lines) (written_out (drop l.at l.lines)) l.fn.session l.session l.fn.answers.items l.answers.items (g.A.Readable.seen l.fn.actor) (g.A.Readable.seen l.actor);
   kinds : kinds_after (kinds_at l.session.state) (written_out (drop l.at l.lines)) ≡ kinds_after (kinds_at l.fn.session.state) (written_out l.lines);
   lie : StagesLie (kinds_at l.session.state);
 }

@@ -10,8 +10,8 @@ abbrev pub invariant-loop-reading : goal.invariant-loop-reading
 invariant-loop-reading g l =
     record {
       reached : Reached l.reader (scope_of l.setting) l.fn.table l.readings.items;
-      calls : Goes (g.R.Rows.seen l.fn.rows).reached (g.R.Rows.seen l.rows).reached (calls_of l.readings.items);
-      kept : Same (g.R.Rows.seen l.fn.rows) (g.R.Rows.seen l.rows);
+      calls : Goes (g.R.Readable.seen l.fn.rows).reached (g.R.Readable.seen l.rows).reached (calls_of l.readings.items);
+      kept : Same (g.R.Readable.seen l.fn.rows) (g.R.Readable.seen l.rows);
     }
 
 abbrev pub decreases-loop-reading : goal.decreases-loop-reading

@@ -5,13 +5,13 @@ use Rattle.pfs_session.proofs.paying.pay_all.Goals as goal
 
 pub loop-cell-init : goal.loop-cell-init
 loop-cell-init g c = record {
-  pays = pays_as _ _ _ _ _ _ (sym (owed_nothing c.args.slot 0)) (pays_none c.args.log.now (g.H.Rows.seen c.args.rows.now).reached);
+  pays = pays_as _ _ _ _ _ _ (sym (owed_nothing c.args.slot 0)) (pays_none c.args.log.now (g.H.Readable.seen c.args.rows.now).reached);
   stays = stays_as 0 _ _ _ _ _ (sym (ap length (owed_nothing c.args.slot 0))) (search rules);
 }
 
 pub pay_some-requires-clause-spare : goal.pay_some-requires-clause-spare
 pay_some-requires-clause-spare g c =
-    enough c.args.slot c.args.held.now c.loop-cell.cell (g.H.Rows.seen c.args.rows.now).left (g.H.Rows.seen c.loop-cell.rows).left None
+    enough c.args.slot c.args.held.now c.loop-cell.cell (g.H.Readable.seen c.args.rows.now).left (g.H.Readable.seen c.loop-cell.rows).left None
     c.loop-cell-test.true c.requires.spare c.loop-cell.invariant.stays.left
 
 pub pay_some-requires-clause-room : goal.pay_some-requires-clause-room

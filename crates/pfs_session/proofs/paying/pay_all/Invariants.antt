@@ -5,6 +5,6 @@ use Rattle.pfs_session.proofs.paying.pay_all.Given as goal
 
 abbrev pub invariant-loop-cell : goal.invariant-loop-cell
 invariant-loop-cell g l = record {
-  pays : Pays (owed_from l.slot 0 (take l.cell l.held)) l.fn.log l.log (g.H.Rows.seen l.fn.rows).reached (g.H.Rows.seen l.rows).reached;
-  stays : Stays (length (owed_from l.slot 0 (take l.cell l.held))) (g.H.Rows.seen l.fn.rows) (g.H.Rows.seen l.rows) l.fn.log l.log;
+  pays : Pays (owed_from l.slot 0 (take l.cell l.held)) l.fn.log l.log (g.H.Readable.seen l.fn.rows).reached (g.H.Readable.seen l.rows).reached;
+  stays : Stays (length (owed_from l.slot 0 (take l.cell l.held))) (g.H.Readable.seen l.fn.rows) (g.H.Readable.seen l.rows) l.fn.log l.log;
 }

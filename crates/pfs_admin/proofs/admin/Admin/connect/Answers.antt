@@ -26,7 +26,7 @@ invariant_of-self g c =
 pub returns-clause-worked : goal.returns-clause-worked
 returns-clause-worked g c =
     let done : Worked (work_of_connect c.args.self.now c.args.number c.args.user c.args.host) c.args.self.now.words [] c.push.new.self
-    c.write_connect.new.log (g.H.Rows.seen c.args.rows.now).reached (g.H.Rows.seen c.write_connect.new.rows).reached = search rules in
+    c.write_connect.new.log (g.H.Readable.seen c.args.rows.now).reached (g.H.Readable.seen c.write_connect.new.rows).reached = search rules in
     worked_behind _ _ _ _ _ _ _ _ (search rules) done
 
 pub returns-clause-stands : goal.returns-clause-stands

@@ -19,4 +19,4 @@ returns-clause-stand g c =
 
 pub returns-then-not-what-clause-puts : goal.returns-then-not-what-clause-puts
 returns-then-not-what-clause-puts g c =
-    puts_none c.args.self.now c.args.what.now c.args.numbers.now c.args.consumers c.args.thread (g.R.Rows.seen c.args.rows.now).reached _ refl c.requires.there c.if-not-what.true
+    puts_none c.args.self.now c.args.what.now c.args.numbers.now c.args.consumers c.args.thread (g.R.Readable.seen c.args.rows.now).reached _ refl c.requires.there c.if-not-what.true

@@ -29,7 +29,7 @@ place-current-requires-clause-deep g c = λ q.
 
 pub returns-clause-played : goal.returns-clause-played
 returns-clause-played g c =
-    let P : Book → Type 0 = λ b. Played (StartsEvent c.args.what.now ∷ []) b c.place-current.new.self (g.R.Rows.seen c.args.rows.now).reached (g.R.Rows.seen c.place-current.new.rows).reached in
+    let P : Book → Type 0 = λ b. Played (StartsEvent c.args.what.now ∷ []) b c.place-current.new.self (g.R.Readable.seen c.args.rows.now).reached (g.R.Readable.seen c.place-current.new.rows).reached in
     subst P c.self.view_is
     (start_played _ c.begin-number.new.self c.place-current.new.self c.start_entry.result c.args.what.now c.load-seen.result c.judge-verdict.result c.is_timed-timed.result
     c.is_digested-digested.result c.is_placed-placed.result c.opened-event.result c.self.inside.statements c.self.inside.waits c.depth-depth.result c.place-current.result _ _ _

@@ -1,7 +1,7 @@
 use Rattle.std.proofs.Common.{◌∙◌, [], ◌∷◌}
 use Rattle.pfs_levels.specs.Calls.{Reads}
 use Rattle.pfs_actor.proofs.PlainSteps.{goes_on, same_on, store_of}
-use Rattle.pfs_actor.proofs.plain.PlainActorRows.read.Goals as goal
+use Rattle.pfs_actor.proofs.plain.PlainActorReadable.read.Goals as goal
 
 pub returns-clause-call : goal.returns-clause-call
 returns-clause-call g c = goes_on g.N.Named.setting g.N.Named.change c.args.self.now.admin (store_of c.args.self.now.rows) (store_of c.read.new.self) (Reads c.args.row c.read.result ∷ []) (tt, tt) c.read.ensures.call
