@@ -153,7 +153,7 @@ flags_are : opening_flags setting opening_objects ≡ flags
 unfolding setting opening_flags registered
 flags_are = refl
 
-abbrev label : ℕ → ℕ → Label
+abbrev pub label : ℕ → ℕ → Label
 label session line = record { session = session; line = line }
 
 -- each session connects first; then the first one empties the waits, and the second one the stages, of which there are none
@@ -167,7 +167,7 @@ abbrev change : Label → Change
 change l = if l.line == 1 then (if l.session == 1 then Connect 0 1 else Connect 1 0) else (if l.session == 1 then Truncate waits else Truncate stages)
 
 -- the three classes are of waits
-abbrev cells_by_kind : KindCells
+abbrev pub cells_by_kind : KindCells
 cells_by_kind = record { waits = 0 ∷ 1 ∷ 2 ∷ []; stages = []; statements = []; transactions = 62 ∷ 63 ∷ []; digests = 0 }
 
 -- the administration before each of the four actions
@@ -226,11 +226,11 @@ unfolding state_from
 fourth_fold = ap (λ (z : Administration). has_truncated (connected (connected z 1 0 1) 2 1 0) waits) (sym opened_is)
 
 -- what was written first to rows that nobody had written
-abbrev made_first : List Sign → List Made
+abbrev pub made_first : List Sign → List Made
 made_first [] = []
 made_first (sign ∷ signs) = made_first signs ++ record { sign = sign; version = 0; found = opening_content (row_of sign) } ∷ []
 
-abbrev connect_turn : Administration → ℕ → ℕ → State → Turn
+abbrev pub connect_turn : Administration → ℕ → ℕ → State → Turn
 connect_turn admin user host s = record {
   step = Connects admin user host;
   calls = flagging_calls admin.words (work_of_connect admin s.number user host).flags ++ (signs_calls (made_first (work_of_connect admin s.number user host).signs) ++ []);
@@ -239,13 +239,13 @@ connect_turn admin user host s = record {
   after = record (acted s (connected admin s.number user host)) { place = placed_of (seat_at admin s.number user host) };
 }
 
-abbrev connect_part : Administration → ℕ → ℕ → State → Part
+abbrev pub connect_part : Administration → ℕ → ℕ → State → Part
 connect_part admin user host s = record { deed = Connecting admin user host; turns = connect_turn admin user host s ∷ [] }
 
-abbrev done : Deed → Turn → Doing
+abbrev pub done : Deed → Turn → Doing
 done deed turn = record { part = record { deed = deed; turns = turn ∷ [] }; label = label 0 0; labels = []; met = None }
 
-abbrev close_turn : State → Turn
+abbrev pub close_turn : State → Turn
 close_turn s = record { step = SettlesHeld; calls = []; entries = []; after = record s { held = nothing_held } }
 
 -- a truncation takes these rows, and gives nothing on
@@ -307,7 +307,7 @@ abbrev second_back : State
 second_back = resumed (close_turn second_seated).after
 
 -- a wait of class 0 starts and ends
-abbrev wait : Subject
+abbrev pub wait : Subject
 wait = record { kind = kinds.Wait; class = Some 0; cell = 0; table = None; digest = None }
 
 abbrev seen : Setup
@@ -424,7 +424,7 @@ second_connects = record {
   steps_are = refl;
 }
 
-closes : (s : State) → s.held ≡ nothing_held → IsPart s (record { deed = Closing; turns = close_turn s ∷ [] })
+pub closes : (s : State) → s.held ≡ nothing_held → IsPart s (record { deed = Closing; turns = close_turn s ∷ [] })
 closes s h =
     let none : owed_by_state s ≡ [] = ap (λ z. owed_in s.place.thread z) h ∙ nothing_owed s.place.thread in
     record {
@@ -570,18 +570,18 @@ connect_first : AllConnectFirst spells
 connect_first = ((refl, (tt, tt)), ((refl, (tt, tt)), ((tt, (tt, tt)), ((tt, (tt, (tt, (tt, (tt, (tt, tt)))))), tt))))
 
 -- what stands in a row at a version, by all that was put there
-abbrev stands : List Call → ℕ → ℕ → List ℕ
+abbrev pub stands : List Call → ℕ → ℕ → List ℕ
 stands [] row version = opening_content row
 stands (Puts at content k ∷ calls) row version = cond ((at == row) && (k == version)) content (stands calls row version)
 stands (Adds at more (Counted r k) ∷ calls) row version = cond ((r == row) && (k == version)) (merged (stands calls row (k - 1)) more) (stands calls row version)
 stands (_ ∷ calls) row version = stands calls row version
 
-abbrev IsAnew : Call → Type 0
+abbrev pub IsAnew : Call → Type 0
 IsAnew (Puts at content k) = 0 < k
 IsAnew (Adds at more (Counted r k)) = 0 < k
 IsAnew _ = Unit {0}
 
-opens : (calls : List Call) → Each IsAnew calls → (row : ℕ) → stands calls row 0 ≡ opening_content row
+pub opens : (calls : List Call) → Each IsAnew calls → (row : ℕ) → stands calls row 0 ≡ opening_content row
 opens [] anew row = refl
 opens (Puts at content k ∷ calls) anew row = by (at == row) (k == 0) refl (opens calls anew.1 row) where
   by : (a b : Bool) → (k == 0) ≡ b → stands calls row 0 ≡ opening_content row → cond (a && b) content (stands calls row 0) ≡ opening_content row

@@ -42,3 +42,5 @@ mod EndReadings
 mod FrontLabels
 mod SharedEnds
 mod Examples
+mod LateSessions
+mod LateExamples
