@@ -16,7 +16,7 @@ use pfs_admin::{SetupStatement, Truncation};
 use pfs_board::Kept;
 use pfs_board_admin::{Desk, Shared};
 use pfs_board_store::{BoardHold, BoardRows};
-use pfs_levels::Rows;
+use pfs_levels::Readable;
 use pfs_names::NameId;
 use pfs_session::{Paused, Session};
 use std::sync::Wait;
@@ -36,12 +36,12 @@ pub fn connect<'a, R: Wait, N: Shared>(
     requires first { session.old.state.actions ≡ 0 }
     requires unplaced { session.old.state.place ≡ no_place }
     requires closed { session.old.state.opened.events ≡ [] }
-    requires idle { IsIdle 5 6 (⟦<BoardRows<'a, Desk<N>> as Rows>⟧.seen rows) session.old }
+    requires idle { IsIdle 5 6 (⟦<BoardRows<'a, Desk<N>> as Readable>⟧.seen rows) session.old }
     requires begun { (start : Opening) × (calls : List Call)
-        × ((⟦<BoardRows<'a, Desk<N>> as Rows>⟧.seen rows).reached start calls) × (start.switches.table ≡ N.switches) }
+        × ((⟦<BoardRows<'a, Desk<N>> as Readable>⟧.seen rows).reached start calls) × (start.switches.table ≡ N.switches) }
     ensures acted { HasActed N.setting N.change (λ admin. Connects admin user host ∷ []) session.old session.new
-        (⟦<BoardRows<'a, Desk<N>> as Rows>⟧.seen rows.entry).reached
-        (⟦<BoardRows<'a, Desk<N>> as Rows>⟧.seen result).reached }
+        (⟦<BoardRows<'a, Desk<N>> as Readable>⟧.seen rows.entry).reached
+        (⟦<BoardRows<'a, Desk<N>> as Readable>⟧.seen result).reached }
     ensures rest { session.new.state ≡ record session.old.state {
       place = session.new.state.place;
       actions = 1;
@@ -49,9 +49,9 @@ pub fn connect<'a, R: Wait, N: Shared>(
     } }
     ensures held { session.new.state.held ≡ nothing_held }
     ensures owed { owed_by_state session.new.state ≡ [] }
-    ensures hand { (r : ℕ) → (⟦<BoardRows<'a, Desk<N>> as Rows>⟧.seen result).hand r ≡ None }
-    ensures used { Used 5 0 6 (⟦<BoardRows<'a, Desk<N>> as Rows>⟧.seen rows.entry)
-        (⟦<BoardRows<'a, Desk<N>> as Rows>⟧.seen result) session.old.journal session.new.journal }
+    ensures hand { (r : ℕ) → (⟦<BoardRows<'a, Desk<N>> as Readable>⟧.seen result).hand r ≡ None }
+    ensures used { Used 5 0 6 (⟦<BoardRows<'a, Desk<N>> as Readable>⟧.seen rows.entry)
+        (⟦<BoardRows<'a, Desk<N>> as Readable>⟧.seen result) session.old.journal session.new.journal }
 {
     let (mut admin, mut hold) = begin(rt, rows, session.label());
     session.connect(&mut hold, &mut admin, user, host);
@@ -69,22 +69,22 @@ pub fn quit<'a, R: Wait, N: Shared>(
     requires closed { session.old.state.opened.events ≡ [] }
     requires early { session.old.state.actions + 1 < 2 ^ 64 }
     requires idle { IsIdle (length (owed_by_state session.old.state) + 253) (settle_cost
-        (owed_by_state session.old.state) + 254) (⟦<BoardRows<'a, Desk<N>> as Rows>⟧.seen rows) session.old }
+        (owed_by_state session.old.state) + 254) (⟦<BoardRows<'a, Desk<N>> as Readable>⟧.seen rows) session.old }
     requires begun { (start : Opening) × (calls : List Call)
-        × ((⟦<BoardRows<'a, Desk<N>> as Rows>⟧.seen rows).reached start calls) × (start.switches.table ≡ N.switches) }
+        × ((⟦<BoardRows<'a, Desk<N>> as Readable>⟧.seen rows).reached start calls) × (start.switches.table ≡ N.switches) }
     ensures acted { HasActed N.setting N.change (λ admin. SettlesHeld ∷ Quits admin ∷ []) session.old
-        session.new (⟦<BoardRows<'a, Desk<N>> as Rows>⟧.seen rows.entry).reached
-        (⟦<BoardRows<'a, Desk<N>> as Rows>⟧.seen result).reached }
+        session.new (⟦<BoardRows<'a, Desk<N>> as Readable>⟧.seen rows.entry).reached
+        (⟦<BoardRows<'a, Desk<N>> as Readable>⟧.seen result).reached }
     ensures rest { session.new.state ≡ record session.old.state {
       place = no_place;
       held = nothing_held;
       actions = session.old.state.actions + 1;
       last = session.new.state.last;
     } }
-    ensures hand { (r : ℕ) → (⟦<BoardRows<'a, Desk<N>> as Rows>⟧.seen result).hand r ≡ None }
+    ensures hand { (r : ℕ) → (⟦<BoardRows<'a, Desk<N>> as Readable>⟧.seen result).hand r ≡ None }
     ensures used { Used (length (owed_by_state session.old.state) + 253) 0 (settle_cost
-        (owed_by_state session.old.state) + 254) (⟦<BoardRows<'a, Desk<N>> as Rows>⟧.seen rows.entry)
-        (⟦<BoardRows<'a, Desk<N>> as Rows>⟧.seen result) session.old.journal session.new.journal }
+        (owed_by_state session.old.state) + 254) (⟦<BoardRows<'a, Desk<N>> as Readable>⟧.seen rows.entry)
+        (⟦<BoardRows<'a, Desk<N>> as Readable>⟧.seen result) session.old.journal session.new.journal }
 {
     let (mut admin, mut hold) = begin(rt, rows, session.label());
     session.quit(&mut hold, &mut admin);
@@ -102,21 +102,21 @@ pub fn truncate<'a, R: Wait, N: Shared>(
     requires named { N.change (label_of session.old.state) ≡ Truncate what }
     requires early { session.old.state.actions + 1 < 2 ^ 64 }
     requires idle { IsIdle (length (owed_by_state session.old.state) + 19_203) (settle_cost
-        (owed_by_state session.old.state) + 19_204) (⟦<BoardRows<'a, Desk<N>> as Rows>⟧.seen rows) session.old }
+        (owed_by_state session.old.state) + 19_204) (⟦<BoardRows<'a, Desk<N>> as Readable>⟧.seen rows) session.old }
     requires begun { (start : Opening) × (calls : List Call)
-        × ((⟦<BoardRows<'a, Desk<N>> as Rows>⟧.seen rows).reached start calls) × (start.switches.table ≡ N.switches) }
+        × ((⟦<BoardRows<'a, Desk<N>> as Readable>⟧.seen rows).reached start calls) × (start.switches.table ≡ N.switches) }
     ensures acted { HasActed N.setting N.change (λ admin. SettlesHeld ∷ Truncates admin what ∷ []) session.old
-        session.new (⟦<BoardRows<'a, Desk<N>> as Rows>⟧.seen rows.entry).reached
-        (⟦<BoardRows<'a, Desk<N>> as Rows>⟧.seen result).reached }
+        session.new (⟦<BoardRows<'a, Desk<N>> as Readable>⟧.seen rows.entry).reached
+        (⟦<BoardRows<'a, Desk<N>> as Readable>⟧.seen result).reached }
     ensures rest { session.new.state ≡ record session.old.state {
       held = nothing_held;
       actions = session.old.state.actions + 1;
       last = session.new.state.last;
     } }
-    ensures hand { (r : ℕ) → (⟦<BoardRows<'a, Desk<N>> as Rows>⟧.seen result).hand r ≡ None }
+    ensures hand { (r : ℕ) → (⟦<BoardRows<'a, Desk<N>> as Readable>⟧.seen result).hand r ≡ None }
     ensures used { Used (length (owed_by_state session.old.state) + 19_203) 0 (settle_cost
-        (owed_by_state session.old.state) + 19_204) (⟦<BoardRows<'a, Desk<N>> as Rows>⟧.seen rows.entry)
-        (⟦<BoardRows<'a, Desk<N>> as Rows>⟧.seen result) session.old.journal session.new.journal }
+        (owed_by_state session.old.state) + 19_204) (⟦<BoardRows<'a, Desk<N>> as Readable>⟧.seen rows.entry)
+        (⟦<BoardRows<'a, Desk<N>> as Readable>⟧.seen result) session.old.journal session.new.journal }
 {
     let (mut admin, mut hold) = begin(rt, rows, session.label());
     // The most that it may come to is asked for the law that comes with it.
@@ -136,22 +136,22 @@ pub fn act<'a, R: Wait, N: Shared>(
     requires named { N.change (label_of session.old.state) ≡ Setup what }
     requires early { session.old.state.actions + 1 < 2 ^ 64 }
     requires idle { IsIdle (length (owed_by_state session.old.state) + 1) (settle_cost
-        (owed_by_state session.old.state) + (most_of what + 2)) (⟦<BoardRows<'a, Desk<N>> as Rows>⟧.seen rows)
+        (owed_by_state session.old.state) + (most_of what + 2)) (⟦<BoardRows<'a, Desk<N>> as Readable>⟧.seen rows)
         session.old }
     requires begun { (start : Opening) × (calls : List Call)
-        × ((⟦<BoardRows<'a, Desk<N>> as Rows>⟧.seen rows).reached start calls) × (start.switches.table ≡ N.switches) }
+        × ((⟦<BoardRows<'a, Desk<N>> as Readable>⟧.seen rows).reached start calls) × (start.switches.table ≡ N.switches) }
     ensures acted { HasActed N.setting N.change (λ admin. SettlesHeld ∷ Changes admin what ∷ []) session.old
-        session.new (⟦<BoardRows<'a, Desk<N>> as Rows>⟧.seen rows.entry).reached
-        (⟦<BoardRows<'a, Desk<N>> as Rows>⟧.seen result).reached }
+        session.new (⟦<BoardRows<'a, Desk<N>> as Readable>⟧.seen rows.entry).reached
+        (⟦<BoardRows<'a, Desk<N>> as Readable>⟧.seen result).reached }
     ensures rest { session.new.state ≡ record session.old.state {
       held = nothing_held;
       actions = session.old.state.actions + 1;
       last = session.new.state.last;
     } }
-    ensures hand { (r : ℕ) → (⟦<BoardRows<'a, Desk<N>> as Rows>⟧.seen result).hand r ≡ None }
+    ensures hand { (r : ℕ) → (⟦<BoardRows<'a, Desk<N>> as Readable>⟧.seen result).hand r ≡ None }
     ensures used { Used (length (owed_by_state session.old.state) + 1) 0 (settle_cost
-        (owed_by_state session.old.state) + (most_of what + 2)) (⟦<BoardRows<'a, Desk<N>> as Rows>⟧.seen rows.entry)
-        (⟦<BoardRows<'a, Desk<N>> as Rows>⟧.seen result) session.old.journal session.new.journal }
+        (owed_by_state session.old.state) + (most_of what + 2)) (⟦<BoardRows<'a, Desk<N>> as Readable>⟧.seen rows.entry)
+        (⟦<BoardRows<'a, Desk<N>> as Readable>⟧.seen result) session.old.journal session.new.journal }
 {
     let (mut admin, mut hold) = begin(rt, rows, session.label());
     session.act(&mut hold, &mut admin, what);
@@ -165,17 +165,17 @@ pub fn pause<'a, R: Wait, V: Kept>(
     rows: BoardRows<'a, V>,
     session: Session,
 ) -> (BoardRows<'a, V>, Paused)
-    requires alone { (r : ℕ) → (⟦<BoardRows<'a, V> as Rows>⟧.seen rows).hand r ≡ None }
-    requires spare { length (owed_by_state session.state) ≤ (⟦<BoardRows<'a, V> as Rows>⟧.seen rows).left }
+    requires alone { (r : ℕ) → (⟦<BoardRows<'a, V> as Readable>⟧.seen rows).hand r ≡ None }
+    requires spare { length (owed_by_state session.state) ≤ (⟦<BoardRows<'a, V> as Readable>⟧.seen rows).left }
     requires room { settle_cost (owed_by_state session.state) ≤ session.journal.room }
-    ensures played { Played (SettlesHeld ∷ []) session result.1 (⟦<BoardRows<'a, V> as Rows>⟧.seen rows.entry).reached
-        (⟦<BoardRows<'a, V> as Rows>⟧.seen result.0).reached }
+    ensures played { Played (SettlesHeld ∷ []) session result.1 (⟦<BoardRows<'a, V> as Readable>⟧.seen rows.entry).reached
+        (⟦<BoardRows<'a, V> as Readable>⟧.seen result.0).reached }
     ensures rest { result.1.state ≡ record session.state { held = nothing_held } }
-    ensures hand { (r : ℕ) → (⟦<BoardRows<'a, V> as Rows>⟧.seen result.0).hand r ≡ None }
-    ensures left { (⟦<BoardRows<'a, V> as Rows>⟧.seen rows.entry).left
-        ≤ (⟦<BoardRows<'a, V> as Rows>⟧.seen result.0).left + length (owed_by_state session.state) }
-    ensures draws { (⟦<BoardRows<'a, V> as Rows>⟧.seen result.0).draws
-        ≡ (⟦<BoardRows<'a, V> as Rows>⟧.seen rows.entry).draws }
+    ensures hand { (r : ℕ) → (⟦<BoardRows<'a, V> as Readable>⟧.seen result.0).hand r ≡ None }
+    ensures left { (⟦<BoardRows<'a, V> as Readable>⟧.seen rows.entry).left
+        ≤ (⟦<BoardRows<'a, V> as Readable>⟧.seen result.0).left + length (owed_by_state session.state) }
+    ensures draws { (⟦<BoardRows<'a, V> as Readable>⟧.seen result.0).draws
+        ≡ (⟦<BoardRows<'a, V> as Readable>⟧.seen rows.entry).draws }
     ensures room { session.journal.room ≤ result.1.journal.room + settle_cost (owed_by_state session.state) }
 {
     let mut hold = BoardHold::new(rt, rows, None);

@@ -3,10 +3,12 @@
 
 mod actions;
 mod desks;
+mod gates;
 mod seated;
 mod showing;
 
 pub use actions::{act, connect, pause, quit, truncate};
+pub use gates::{Gate, OpenGate};
 pub use seated::Seated;
 pub use showing::show_held;
 

@@ -21,7 +21,7 @@ use pfs_admin::{Admin, SetupStatement};
 use pfs_board_admin::{Desk, Shared};
 use pfs_board_store::BoardRows;
 use pfs_exec::Select;
-use pfs_levels::{Hold, Rows};
+use pfs_levels::{Hold, Readable, Rows};
 use pfs_session::{Remark, Session};
 use pfs_setups::show;
 use pfs_text::Rowset;
@@ -43,20 +43,20 @@ pub fn show_held<'a, R: Wait, N: Shared>(
     requires held { IsHeld query.now.table }
     requires early { session.old.state.actions + 1 < 2 ^ 64 }
     requires idle { IsIdle (length (owed_by_state session.old.state) + 1) (settle_cost
-        (owed_by_state session.old.state) + 3) (⟦<BoardRows<'a, Desk<N>> as Rows>⟧.seen rows) session.old }
+        (owed_by_state session.old.state) + 3) (⟦<BoardRows<'a, Desk<N>> as Readable>⟧.seen rows) session.old }
     requires begun { (start : Opening) × (calls : List Call)
-        × ((⟦<BoardRows<'a, Desk<N>> as Rows>⟧.seen rows).reached start calls) × (start.switches.table ≡ N.switches) }
+        × ((⟦<BoardRows<'a, Desk<N>> as Readable>⟧.seen rows).reached start calls) × (start.switches.table ≡ N.switches) }
     ensures shown { HasShown N.setting N.change query.now result.1 session.old session.new
-        (⟦<BoardRows<'a, Desk<N>> as Rows>⟧.seen rows.entry).reached
-        (⟦<BoardRows<'a, Desk<N>> as Rows>⟧.seen result.0).reached }
+        (⟦<BoardRows<'a, Desk<N>> as Readable>⟧.seen rows.entry).reached
+        (⟦<BoardRows<'a, Desk<N>> as Readable>⟧.seen result.0).reached }
     ensures rest { session.new.state ≡ record session.old.state {
       held = nothing_held;
       actions = session.old.state.actions + 1;
       last = session.new.state.last;
     } }
-    ensures hand { (r : ℕ) → (⟦<BoardRows<'a, Desk<N>> as Rows>⟧.seen result.0).hand r ≡ None }
+    ensures hand { (r : ℕ) → (⟦<BoardRows<'a, Desk<N>> as Readable>⟧.seen result.0).hand r ≡ None }
     ensures used { Used (length (owed_by_state session.old.state) + 1) 0 (settle_cost (owed_by_state session.old.state)
-        + 3) (⟦<BoardRows<'a, Desk<N>> as Rows>⟧.seen rows.entry) (⟦<BoardRows<'a, Desk<N>> as Rows>⟧.seen result.0)
+        + 3) (⟦<BoardRows<'a, Desk<N>> as Readable>⟧.seen rows.entry) (⟦<BoardRows<'a, Desk<N>> as Readable>⟧.seen result.0)
         session.old.journal session.new.journal }
 {
     let (mut admin, mut hold) = begin(rt, rows, session.label());

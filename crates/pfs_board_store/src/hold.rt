@@ -10,7 +10,7 @@ ghost use Rattle.pfs_board_store.specs.ActorCalls.{in_hand};
 
 use crate::rows::BoardRows;
 use pfs_board::{Content, Kept};
-use pfs_levels::{Added, Hold, RingPut, Rows};
+use pfs_levels::{Added, Hold, Readable, RingPut, Rows};
 use pfs_rows::Seen;
 use pfs_stat::Stat;
 use pfs_switches::Writer;
@@ -35,20 +35,20 @@ impl<'a, 'b, R: Wait, V: Kept> BoardHold<'a, 'b, R, V> {
     /// The actor meets it here, as one call more, and has then seen each word at the version that the writer knows.
     pub fn new(rt: &'a R, rows: BoardRows<'b, V>, writer: Option<Writer>) -> BoardHold<'a, 'b, R, V>
         requires wide { IfSome writer (λ w. 160 ≤ length w.view.seen) }
-        requires inside { IfSome writer (λ _. IsSome ((⟦<BoardRows<'b, V> as Rows>⟧.seen rows).hand 0)) }
+        requires inside { IfSome writer (λ _. IsSome ((⟦<BoardRows<'b, V> as Readable>⟧.seen rows).hand 0)) }
         requires same { IfSome writer (λ w. (start : Opening) × (calls : List Call)
-            × ((⟦<BoardRows<'b, V> as Rows>⟧.seen rows).reached start calls) × (w.switches ≡ start.switches.table)) }
-        ensures call { Goes (⟦<BoardRows<'b, V> as Rows>⟧.seen rows.entry).reached
-            (⟦<BoardHold<'a, 'b, R, V> as Rows>⟧.seen result).reached (meeting writer) }
-        ensures left { (⟦<BoardHold<'a, 'b, R, V> as Rows>⟧.seen result).left
-            ≡ (⟦<BoardRows<'b, V> as Rows>⟧.seen rows.entry).left }
-        ensures draws { (⟦<BoardHold<'a, 'b, R, V> as Rows>⟧.seen result).draws
-            ≡ (⟦<BoardRows<'b, V> as Rows>⟧.seen rows.entry).draws }
-        ensures hand { (r : ℕ) → (⟦<BoardHold<'a, 'b, R, V> as Rows>⟧.seen result).hand r
-            ≡ (⟦<BoardRows<'b, V> as Rows>⟧.seen rows.entry).hand r }
-        ensures words { (⟦<BoardHold<'a, 'b, R, V> as Rows>⟧.seen result).words ≡ option_map (λ w. words_of w.view)
+            × ((⟦<BoardRows<'b, V> as Readable>⟧.seen rows).reached start calls) × (w.switches ≡ start.switches.table)) }
+        ensures call { Goes (⟦<BoardRows<'b, V> as Readable>⟧.seen rows.entry).reached
+            (⟦<BoardHold<'a, 'b, R, V> as Readable>⟧.seen result).reached (meeting writer) }
+        ensures left { (⟦<BoardHold<'a, 'b, R, V> as Readable>⟧.seen result).left
+            ≡ (⟦<BoardRows<'b, V> as Readable>⟧.seen rows.entry).left }
+        ensures draws { (⟦<BoardHold<'a, 'b, R, V> as Readable>⟧.seen result).draws
+            ≡ (⟦<BoardRows<'b, V> as Readable>⟧.seen rows.entry).draws }
+        ensures hand { (r : ℕ) → (⟦<BoardHold<'a, 'b, R, V> as Readable>⟧.seen result).hand r
+            ≡ (⟦<BoardRows<'b, V> as Readable>⟧.seen rows.entry).hand r }
+        ensures words { (⟦<BoardHold<'a, 'b, R, V> as Readable>⟧.seen result).words ≡ option_map (λ w. words_of w.view)
             writer }
-        ensures name { (⟦<BoardHold<'a, 'b, R, V> as Rows>⟧.seen result).name ≡ number_of (sets_in writer) }
+        ensures name { (⟦<BoardHold<'a, 'b, R, V> as Readable>⟧.seen result).name ≡ number_of (sets_in writer) }
     {
         let lent = Snapshot::of(&writer);
         match writer {
@@ -74,23 +74,23 @@ impl<'a, 'b, R: Wait, V: Kept> BoardHold<'a, 'b, R, V> {
     /// Gives back the store, behind the hold's calls, and the writer, where it was lent one. Its sets are those of the
     /// calls behind its meet, then those that it had as it was lent, which the hold's name tells.
     pub fn into_parts(self) -> (BoardRows<'b, V>, Option<Writer>)
-        ensures call { Goes (⟦<BoardHold<'a, 'b, R, V> as Rows>⟧.seen self.entry).reached
-            (⟦<BoardRows<'b, V> as Rows>⟧.seen result.0).reached [] }
-        ensures left { (⟦<BoardRows<'b, V> as Rows>⟧.seen result.0).left
-            ≡ (⟦<BoardHold<'a, 'b, R, V> as Rows>⟧.seen self.entry).left }
-        ensures draws { (⟦<BoardRows<'b, V> as Rows>⟧.seen result.0).draws
-            ≡ (⟦<BoardHold<'a, 'b, R, V> as Rows>⟧.seen self.entry).draws }
-        ensures hand { (r : ℕ) → (⟦<BoardRows<'b, V> as Rows>⟧.seen result.0).hand r
-            ≡ (⟦<BoardHold<'a, 'b, R, V> as Rows>⟧.seen self.entry).hand r }
+        ensures call { Goes (⟦<BoardHold<'a, 'b, R, V> as Readable>⟧.seen self.entry).reached
+            (⟦<BoardRows<'b, V> as Readable>⟧.seen result.0).reached [] }
+        ensures left { (⟦<BoardRows<'b, V> as Readable>⟧.seen result.0).left
+            ≡ (⟦<BoardHold<'a, 'b, R, V> as Readable>⟧.seen self.entry).left }
+        ensures draws { (⟦<BoardRows<'b, V> as Readable>⟧.seen result.0).draws
+            ≡ (⟦<BoardHold<'a, 'b, R, V> as Readable>⟧.seen self.entry).draws }
+        ensures hand { (r : ℕ) → (⟦<BoardRows<'b, V> as Readable>⟧.seen result.0).hand r
+            ≡ (⟦<BoardHold<'a, 'b, R, V> as Readable>⟧.seen self.entry).hand r }
         ensures words { option_map (λ w. words_of w.view) result.1
-            ≡ (⟦<BoardHold<'a, 'b, R, V> as Rows>⟧.seen self.entry).words }
+            ≡ (⟦<BoardHold<'a, 'b, R, V> as Readable>⟧.seen self.entry).words }
         ensures same { (start : Opening) → (calls : List Call)
-            → (⟦<BoardHold<'a, 'b, R, V> as Rows>⟧.seen self.entry).reached start calls → IfSome result.1
+            → (⟦<BoardHold<'a, 'b, R, V> as Readable>⟧.seen self.entry).reached start calls → IfSome result.1
             (λ w. w.switches ≡ start.switches.table) }
         ensures wide { IfSome result.1 (λ w. 160 ≤ length w.view.seen) }
         ensures sets { (start : Opening) → (calls : List Call)
-            → (⟦<BoardHold<'a, 'b, R, V> as Rows>⟧.seen self.entry).reached start calls → (had : List Setting)
-            → (⟦<BoardHold<'a, 'b, R, V> as Rows>⟧.seen self.entry).name ≡ number_of had → IfSome result.1
+            → (⟦<BoardHold<'a, 'b, R, V> as Readable>⟧.seen self.entry).reached start calls → (had : List Setting)
+            → (⟦<BoardHold<'a, 'b, R, V> as Readable>⟧.seen self.entry).name ≡ number_of had → IfSome result.1
             (λ w. w.view.sets ≡ sets_since_met calls ++ had) }
     {
         let BoardHold {
@@ -103,24 +103,16 @@ impl<'a, 'b, R: Wait, V: Kept> BoardHold<'a, 'b, R, V> {
     }
 }
 
-impl<'a, 'b, R: Wait, V: Kept> Rows for BoardHold<'a, 'b, R, V> {
+impl<'a, 'b, R: Wait, V: Kept> Readable for BoardHold<'a, 'b, R, V> {
     ghost seen = { λ s. record {
-      reached = λ start calls. ((⟦<BoardRows<'b, V> as Rows>⟧.seen s.rows).reached start calls)
+      reached = λ start calls. ((⟦<BoardRows<'b, V> as Readable>⟧.seen s.rows).reached start calls)
           × HasSet s.lent.value calls s.writer;
-      hand = (⟦<BoardRows<'b, V> as Rows>⟧.seen s.rows).hand;
-      left = (⟦<BoardRows<'b, V> as Rows>⟧.seen s.rows).left;
-      draws = (⟦<BoardRows<'b, V> as Rows>⟧.seen s.rows).draws;
+      hand = (⟦<BoardRows<'b, V> as Readable>⟧.seen s.rows).hand;
+      left = (⟦<BoardRows<'b, V> as Readable>⟧.seen s.rows).left;
+      draws = (⟦<BoardRows<'b, V> as Readable>⟧.seen s.rows).draws;
       words = option_map (λ w. words_of w.view) s.writer;
       name = number_of (sets_in s.lent.value);
     } };
-
-    fn add_try(&mut self, row: u64, amount: &Stat) -> Added {
-        self.rows.add_try(row, amount)
-    }
-
-    fn ring_try(&mut self, row: u64, content: &Content) -> RingPut {
-        self.rows.ring_try(row, content)
-    }
 
     fn read(&mut self, row: u64) -> Seen {
         self.rows.read(row)
@@ -128,6 +120,16 @@ impl<'a, 'b, R: Wait, V: Kept> Rows for BoardHold<'a, 'b, R, V> {
 
     fn load(&mut self, word: u64) -> (u64, u16) {
         self.rows.load(word)
+    }
+}
+
+impl<'a, 'b, R: Wait, V: Kept> Rows for BoardHold<'a, 'b, R, V> {
+    fn add_try(&mut self, row: u64, amount: &Stat) -> Added {
+        self.rows.add_try(row, amount)
+    }
+
+    fn ring_try(&mut self, row: u64, content: &Content) -> RingPut {
+        self.rows.ring_try(row, content)
     }
 
     fn ticket(&mut self, kind: u64) -> u64 {

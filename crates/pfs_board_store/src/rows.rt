@@ -10,7 +10,7 @@ ghost use Rattle.pfs_board_store.specs.Looks.{AreLooked, HasReadOn};
 ghost use Rattle.pfs_board_store.specs.ActorCalls.{IsReached, HasMade, IsFresh, IsIn, in_hand, opening_of, labels_in};
 
 use pfs_board::{Board, BoardSeat, Content, Kept, Label, Seen as Shown, Taken};
-use pfs_levels::{Added, RingPut, Rows};
+use pfs_levels::{Added, Readable, RingPut, Rows};
 use pfs_rows::{LONG_HISTORY, Seen};
 use pfs_stat::Stat;
 use pfs_switches::{SwitchSeat, Switches};
@@ -60,11 +60,11 @@ impl<'a, V: Kept> BoardRows<'a, V> {
         requires fresh { IsFresh seats.board.view × (seats.switches.view.loads ≡ [])
             × (seats.tickets.view.tickets ≡ []) × (seats.switches.view.meets ≡ []) }
         ensures reached { (flags : List ℕ) → seats.switches.view.start ≡ opening_words flags
-            → (⟦<BoardRows<'a, V> as Rows>⟧.seen result).reached (opening_of board.now.id switches.now.id tickets.now
+            → (⟦<BoardRows<'a, V> as Readable>⟧.seen result).reached (opening_of board.now.id switches.now.id tickets.now
             flags seats.board.view seats.switches.view seats.tickets.view) [] }
-        ensures left { (⟦<BoardRows<'a, V> as Rows>⟧.seen result).left ≡ seats.board.view.allowance }
-        ensures draws { (⟦<BoardRows<'a, V> as Rows>⟧.seen result).draws ≡ seats.tickets.view.draws }
-        ensures hand { (r : ℕ) → (⟦<BoardRows<'a, V> as Rows>⟧.seen result).hand r ≡ None }
+        ensures left { (⟦<BoardRows<'a, V> as Readable>⟧.seen result).left ≡ seats.board.view.allowance }
+        ensures draws { (⟦<BoardRows<'a, V> as Readable>⟧.seen result).draws ≡ seats.tickets.view.draws }
+        ensures hand { (r : ℕ) → (⟦<BoardRows<'a, V> as Readable>⟧.seen result).hand r ≡ None }
     {
         let Seats {
             board: seat,
@@ -81,12 +81,14 @@ impl<'a, V: Kept> BoardRows<'a, V> {
         }
     }
 
-    /// Gives the seats back, once no row is in hand and no action under way.
+    /// Gives the seats back, once no row is in hand and no action under way. They may use what the store had left.
     pub fn into_seats(self) -> Seats
-        requires idle { (r : ℕ) → (⟦<BoardRows<'a, V> as Rows>⟧.seen self).hand r ≡ None }
-        ensures made { (start : Opening) → (calls : List Call) → (⟦<BoardRows<'a, V> as Rows>⟧.seen self.entry).reached
+        requires idle { (r : ℕ) → (⟦<BoardRows<'a, V> as Readable>⟧.seen self).hand r ≡ None }
+        ensures made { (start : Opening) → (calls : List Call) → (⟦<BoardRows<'a, V> as Readable>⟧.seen self.entry).reached
             start calls → HasMade start calls result.board result.switches result.tickets }
         ensures held { held result.board.view.rows ≡ 0 }
+        ensures left { result.board.view.allowance ≡ (⟦<BoardRows<'a, V> as Readable>⟧.seen self.entry).left }
+        ensures draws { result.tickets.view.draws ≡ (⟦<BoardRows<'a, V> as Readable>⟧.seen self.entry).draws }
     {
         self.seat.tell();
         let BoardRows {
@@ -107,19 +109,19 @@ impl<'a, V: Kept> BoardRows<'a, V> {
     /// Begins an action, and waits until no other is under way: its number, one above that of the one before, and the
     /// kept value, which stands for the labels of all actions before it.
     pub fn enter<R: Wait>(&mut self, rt: &R, label: Label) -> (u64, V)
-        requires outside { (⟦<BoardRows<'a, V> as Rows>⟧.seen self.old).hand 0 ≡ None }
-        requires room { 0 < (⟦<BoardRows<'a, V> as Rows>⟧.seen self.old).left }
-        ensures call { (start : Opening) → (calls : List Call) → (⟦<BoardRows<'a, V> as Rows>⟧.seen self.old).reached
+        requires outside { (⟦<BoardRows<'a, V> as Readable>⟧.seen self.old).hand 0 ≡ None }
+        requires room { 0 < (⟦<BoardRows<'a, V> as Readable>⟧.seen self.old).left }
+        ensures call { (start : Opening) → (calls : List Call) → (⟦<BoardRows<'a, V> as Readable>⟧.seen self.old).reached
             start calls → (labels : List Label) × ((result.0 ≡ length labels + 1) × V.stands_for result.1 labels
-            × (⟦<BoardRows<'a, V> as Rows>⟧.seen self.new).reached start (Enters label labels ∷ calls)) }
+            × (⟦<BoardRows<'a, V> as Readable>⟧.seen self.new).reached start (Enters label labels ∷ calls)) }
         ensures number { result.0 ≤ 2 ^ 47 }
-        ensures left { (⟦<BoardRows<'a, V> as Rows>⟧.seen self.old).left
-            ≤ (⟦<BoardRows<'a, V> as Rows>⟧.seen self.new).left + 1 }
-        ensures draws { (⟦<BoardRows<'a, V> as Rows>⟧.seen self.new).draws
-            ≡ (⟦<BoardRows<'a, V> as Rows>⟧.seen self.old).draws }
-        ensures inside { IsSome ((⟦<BoardRows<'a, V> as Rows>⟧.seen self.new).hand 0) }
-        ensures hand { (r : ℕ) → 0 < r → (⟦<BoardRows<'a, V> as Rows>⟧.seen self.new).hand r
-            ≡ (⟦<BoardRows<'a, V> as Rows>⟧.seen self.old).hand r }
+        ensures left { (⟦<BoardRows<'a, V> as Readable>⟧.seen self.old).left
+            ≤ (⟦<BoardRows<'a, V> as Readable>⟧.seen self.new).left + 1 }
+        ensures draws { (⟦<BoardRows<'a, V> as Readable>⟧.seen self.new).draws
+            ≡ (⟦<BoardRows<'a, V> as Readable>⟧.seen self.old).draws }
+        ensures inside { IsSome ((⟦<BoardRows<'a, V> as Readable>⟧.seen self.new).hand 0) }
+        ensures hand { (r : ℕ) → 0 < r → (⟦<BoardRows<'a, V> as Readable>⟧.seen self.new).hand r
+            ≡ (⟦<BoardRows<'a, V> as Readable>⟧.seen self.old).hand r }
     {
         self.seat.tell();
         self.board.enter(rt, &mut self.seat, label)
@@ -128,15 +130,15 @@ impl<'a, V: Kept> BoardRows<'a, V> {
     /// Ends the action. The value stands for the labels that the action found and its own behind them. No other row
     /// may be in hand.
     pub fn leave(&mut self, value: V)
-        requires inside { IsSome ((⟦<BoardRows<'a, V> as Rows>⟧.seen self.old).hand 0) }
-        requires alone { (r : ℕ) → 0 < r → (⟦<BoardRows<'a, V> as Rows>⟧.seen self.old).hand r ≡ None }
+        requires inside { IsSome ((⟦<BoardRows<'a, V> as Readable>⟧.seen self.old).hand 0) }
+        requires alone { (r : ℕ) → 0 < r → (⟦<BoardRows<'a, V> as Readable>⟧.seen self.old).hand r ≡ None }
         requires value { (start : Opening) × (calls : List Call)
-            × ((⟦<BoardRows<'a, V> as Rows>⟧.seen self.old).reached start calls)
+            × ((⟦<BoardRows<'a, V> as Readable>⟧.seen self.old).reached start calls)
             × V.stands_for value (labels_in calls ++ label_in calls ∷ []) }
-        ensures call { Goes (⟦<BoardRows<'a, V> as Rows>⟧.seen self.old).reached
-            (⟦<BoardRows<'a, V> as Rows>⟧.seen self.new).reached (Leaves ∷ []) }
-        ensures kept { Same (empty_handed (⟦<BoardRows<'a, V> as Rows>⟧.seen self.old))
-            (⟦<BoardRows<'a, V> as Rows>⟧.seen self.new) }
+        ensures call { Goes (⟦<BoardRows<'a, V> as Readable>⟧.seen self.old).reached
+            (⟦<BoardRows<'a, V> as Readable>⟧.seen self.new).reached (Leaves ∷ []) }
+        ensures kept { Same (empty_handed (⟦<BoardRows<'a, V> as Readable>⟧.seen self.old))
+            (⟦<BoardRows<'a, V> as Readable>⟧.seen self.new) }
     {
         self.seat.tell();
         self.board.leave(&mut self.seat, value);
@@ -145,12 +147,12 @@ impl<'a, V: Kept> BoardRows<'a, V> {
     /// Writes an event to a current or history place.
     fn put_event(&mut self, row: u64, content: &Content) -> RingPut
         requires place { (8450 ≤ row) × (row < 10242) }
-        requires away { (⟦<BoardRows<'a, V> as Rows>⟧.seen self.old).hand row ≡ None }
-        requires room { 0 < (⟦<BoardRows<'a, V> as Rows>⟧.seen self.old).left }
-        ensures call { Goes (⟦<BoardRows<'a, V> as Rows>⟧.seen self.old).reached
-            (⟦<BoardRows<'a, V> as Rows>⟧.seen self.new).reached (Rings row content.now result ∷ []) }
-        ensures kept { StoreKept 1 0 (⟦<BoardRows<'a, V> as Rows>⟧.seen self.old)
-            (⟦<BoardRows<'a, V> as Rows>⟧.seen self.new) }
+        requires away { (⟦<BoardRows<'a, V> as Readable>⟧.seen self.old).hand row ≡ None }
+        requires room { 0 < (⟦<BoardRows<'a, V> as Readable>⟧.seen self.old).left }
+        ensures call { Goes (⟦<BoardRows<'a, V> as Readable>⟧.seen self.old).reached
+            (⟦<BoardRows<'a, V> as Readable>⟧.seen self.new).reached (Rings row content.now result ∷ []) }
+        ensures kept { StoreKept 1 0 (⟦<BoardRows<'a, V> as Readable>⟧.seen self.old)
+            (⟦<BoardRows<'a, V> as Readable>⟧.seen self.new) }
         ensures late { IsLate row content.now result }
         ensures table { self.new.switches.now.id ≡ self.old.switches.now.id }
     {
@@ -168,17 +170,17 @@ impl<'a, V: Kept> BoardRows<'a, V> {
     /// Writes an event to a place of the long history from this lock word on, which a read has just shown.
     fn put_event_at(&mut self, row: u64, word: u64, content: &Content) -> RingPut
         requires place { (10242 ≤ row) × (row < 14242) }
-        requires away { (⟦<BoardRows<'a, V> as Rows>⟧.seen self.old).hand row ≡ None }
-        requires room { 0 < (⟦<BoardRows<'a, V> as Rows>⟧.seen self.old).left }
+        requires away { (⟦<BoardRows<'a, V> as Readable>⟧.seen self.old).hand row ≡ None }
+        requires room { 0 < (⟦<BoardRows<'a, V> as Readable>⟧.seen self.old).left }
         requires word { (word % 4 ≢ 1) × ((corner self.old.seat.view row).fresh ≡ true)
             × ((corner self.old.seat.view row).last ≡ Some word) }
         ensures call { (start : Opening) → (calls : List Call) → self.old.board.now.id ≡ start.board.table
             → self.old.switches.now.id ≡ start.switches.table → self.old.tickets.now ≡ start.tickets.table
             → IsReached start calls self.old.seat.view self.old.words.view self.old.draws.view
             → HasReadOn start.board calls row content.now word self.old.seat.view.reads self.old.seat.view.sights
-            → (⟦<BoardRows<'a, V> as Rows>⟧.seen self.new).reached start (Rings row content.now result ∷ calls) }
-        ensures kept { StoreKept 1 0 (⟦<BoardRows<'a, V> as Rows>⟧.seen self.old)
-            (⟦<BoardRows<'a, V> as Rows>⟧.seen self.new) }
+            → (⟦<BoardRows<'a, V> as Readable>⟧.seen self.new).reached start (Rings row content.now result ∷ calls) }
+        ensures kept { StoreKept 1 0 (⟦<BoardRows<'a, V> as Readable>⟧.seen self.old)
+            (⟦<BoardRows<'a, V> as Readable>⟧.seen self.new) }
         ensures late { IsLate row content.now result }
         ensures table { self.new.switches.now.id ≡ self.old.switches.now.id }
     {
@@ -194,7 +196,7 @@ impl<'a, V: Kept> BoardRows<'a, V> {
     }
 }
 
-impl<'a, V: Kept> Rows for BoardRows<'a, V> {
+impl<'a, V: Kept> Readable for BoardRows<'a, V> {
     ghost seen = { λ s. record {
       reached = λ start calls. (s.board.now.id ≡ start.board.table)
           × (s.switches.now.id ≡ start.switches.table) × (s.tickets.now ≡ start.tickets.table)
@@ -207,15 +209,42 @@ impl<'a, V: Kept> Rows for BoardRows<'a, V> {
       name = 0;
     } };
 
+    fn read(&mut self, row: u64) -> Seen
+        requires known { IsRow row }
+        requires away { (⟦<BoardRows<'a, V> as Readable>⟧.seen self.old).hand row ≡ None }
+        ensures call { Goes (⟦<BoardRows<'a, V> as Readable>⟧.seen self.old).reached
+            (⟦<BoardRows<'a, V> as Readable>⟧.seen self.new).reached (Reads row result ∷ []) }
+        ensures kept { Same (⟦<BoardRows<'a, V> as Readable>⟧.seen self.old) (⟦<BoardRows<'a, V> as Readable>⟧.seen self.new) }
+        ensures table { self.new.switches.now.id ≡ self.old.switches.now.id }
+    {
+        match self.board.read(&mut self.seat, row) {
+            Shown::Whole { version, content } => Seen::Whole { version, content },
+            Shown::Free { word } => Seen::Free { word },
+            Shown::Busy { first, second } => Seen::Busy { first, second },
+        }
+    }
+
+    fn load(&mut self, word: u64) -> (u64, u16)
+        requires { word < 160 }
+        ensures call { Goes (⟦<BoardRows<'a, V> as Readable>⟧.seen self.old).reached
+            (⟦<BoardRows<'a, V> as Readable>⟧.seen self.new).reached (Loads word result.0 result.1 ∷ []) }
+        ensures kept { Same (⟦<BoardRows<'a, V> as Readable>⟧.seen self.old) (⟦<BoardRows<'a, V> as Readable>⟧.seen self.new) }
+        ensures table { self.new.switches.now.id ≡ self.old.switches.now.id }
+    {
+        self.switches.load(&mut self.words, word)
+    }
+}
+
+impl<'a, V: Kept> Rows for BoardRows<'a, V> {
     fn add_try(&mut self, row: u64, amount: &Stat) -> Added
         requires cell { IsCell row }
-        requires away { (⟦<BoardRows<'a, V> as Rows>⟧.seen self.old).hand row ≡ None }
-        requires room { 0 < (⟦<BoardRows<'a, V> as Rows>⟧.seen self.old).left }
-        ensures call { Goes (⟦<BoardRows<'a, V> as Rows>⟧.seen self.old).reached
-            (⟦<BoardRows<'a, V> as Rows>⟧.seen self.new).reached (Adds row amount.now result ∷ []) }
+        requires away { (⟦<BoardRows<'a, V> as Readable>⟧.seen self.old).hand row ≡ None }
+        requires room { 0 < (⟦<BoardRows<'a, V> as Readable>⟧.seen self.old).left }
+        ensures call { Goes (⟦<BoardRows<'a, V> as Readable>⟧.seen self.old).reached
+            (⟦<BoardRows<'a, V> as Readable>⟧.seen self.new).reached (Adds row amount.now result ∷ []) }
         ensures row { row_in result ≡ row }
-        ensures kept { StoreKept 1 0 (⟦<BoardRows<'a, V> as Rows>⟧.seen self.old)
-            (⟦<BoardRows<'a, V> as Rows>⟧.seen self.new) }
+        ensures kept { StoreKept 1 0 (⟦<BoardRows<'a, V> as Readable>⟧.seen self.old)
+            (⟦<BoardRows<'a, V> as Readable>⟧.seen self.new) }
         ensures table { self.new.switches.now.id ≡ self.old.switches.now.id }
     {
         match self.board.take(&mut self.seat, row) {
@@ -230,13 +259,13 @@ impl<'a, V: Kept> Rows for BoardRows<'a, V> {
 
     fn ring_try(&mut self, row: u64, content: &Content) -> RingPut
         requires ring { IsRing row content.now }
-        requires away { (⟦<BoardRows<'a, V> as Rows>⟧.seen self.old).hand row ≡ None }
-        requires room { 0 < (⟦<BoardRows<'a, V> as Rows>⟧.seen self.old).left }
-        ensures call { Goes (⟦<BoardRows<'a, V> as Rows>⟧.seen self.old).reached
-            (⟦<BoardRows<'a, V> as Rows>⟧.seen self.new).reached (Rings row content.now result ∷ []) }
+        requires away { (⟦<BoardRows<'a, V> as Readable>⟧.seen self.old).hand row ≡ None }
+        requires room { 0 < (⟦<BoardRows<'a, V> as Readable>⟧.seen self.old).left }
+        ensures call { Goes (⟦<BoardRows<'a, V> as Readable>⟧.seen self.old).reached
+            (⟦<BoardRows<'a, V> as Readable>⟧.seen self.new).reached (Rings row content.now result ∷ []) }
         ensures late { IsLate row content.now result }
-        ensures kept { StoreKept 1 0 (⟦<BoardRows<'a, V> as Rows>⟧.seen self.old)
-            (⟦<BoardRows<'a, V> as Rows>⟧.seen self.new) }
+        ensures kept { StoreKept 1 0 (⟦<BoardRows<'a, V> as Readable>⟧.seen self.old)
+            (⟦<BoardRows<'a, V> as Readable>⟧.seen self.new) }
         ensures table { self.new.switches.now.id ≡ self.old.switches.now.id }
     {
         if row < LONG_HISTORY {
@@ -261,41 +290,16 @@ impl<'a, V: Kept> Rows for BoardRows<'a, V> {
         }
     }
 
-    fn read(&mut self, row: u64) -> Seen
-        requires known { IsRow row }
-        requires away { (⟦<BoardRows<'a, V> as Rows>⟧.seen self.old).hand row ≡ None }
-        ensures call { Goes (⟦<BoardRows<'a, V> as Rows>⟧.seen self.old).reached
-            (⟦<BoardRows<'a, V> as Rows>⟧.seen self.new).reached (Reads row result ∷ []) }
-        ensures kept { Same (⟦<BoardRows<'a, V> as Rows>⟧.seen self.old) (⟦<BoardRows<'a, V> as Rows>⟧.seen self.new) }
-        ensures table { self.new.switches.now.id ≡ self.old.switches.now.id }
-    {
-        match self.board.read(&mut self.seat, row) {
-            Shown::Whole { version, content } => Seen::Whole { version, content },
-            Shown::Free { word } => Seen::Free { word },
-            Shown::Busy { first, second } => Seen::Busy { first, second },
-        }
-    }
-
-    fn load(&mut self, word: u64) -> (u64, u16)
-        requires { word < 160 }
-        ensures call { Goes (⟦<BoardRows<'a, V> as Rows>⟧.seen self.old).reached
-            (⟦<BoardRows<'a, V> as Rows>⟧.seen self.new).reached (Loads word result.0 result.1 ∷ []) }
-        ensures kept { Same (⟦<BoardRows<'a, V> as Rows>⟧.seen self.old) (⟦<BoardRows<'a, V> as Rows>⟧.seen self.new) }
-        ensures table { self.new.switches.now.id ≡ self.old.switches.now.id }
-    {
-        self.switches.load(&mut self.words, word)
-    }
-
     fn ticket(&mut self, kind: u64) -> u64
         requires known { kind < 4 }
-        requires room { 0 < (⟦<BoardRows<'a, V> as Rows>⟧.seen self.old).draws }
-        ensures call { Goes (⟦<BoardRows<'a, V> as Rows>⟧.seen self.old).reached
-            (⟦<BoardRows<'a, V> as Rows>⟧.seen self.new).reached (Draws kind result ∷ []) }
+        requires room { 0 < (⟦<BoardRows<'a, V> as Readable>⟧.seen self.old).draws }
+        ensures call { Goes (⟦<BoardRows<'a, V> as Readable>⟧.seen self.old).reached
+            (⟦<BoardRows<'a, V> as Readable>⟧.seen self.new).reached (Draws kind result ∷ []) }
         ensures small { result < 2 ^ 47 }
-        ensures left { (⟦<BoardRows<'a, V> as Rows>⟧.seen self.new).left
-            ≡ (⟦<BoardRows<'a, V> as Rows>⟧.seen self.old).left }
-        ensures kept { StoreKept 0 1 (⟦<BoardRows<'a, V> as Rows>⟧.seen self.old)
-            (⟦<BoardRows<'a, V> as Rows>⟧.seen self.new) }
+        ensures left { (⟦<BoardRows<'a, V> as Readable>⟧.seen self.new).left
+            ≡ (⟦<BoardRows<'a, V> as Readable>⟧.seen self.old).left }
+        ensures kept { StoreKept 0 1 (⟦<BoardRows<'a, V> as Readable>⟧.seen self.old)
+            (⟦<BoardRows<'a, V> as Readable>⟧.seen self.new) }
         ensures table { self.new.switches.now.id ≡ self.old.switches.now.id }
     {
         self.tickets.draw(&mut self.draws, kind)

@@ -12,7 +12,7 @@ append-requires g c = record { room = omega (arith, c.act.ensures.used.room, c.r
 
 pub returns-in-Ok-clause-played : goal.returns-in-Ok-clause-played
 returns-in-Ok-clause-played g c =
-    let reached = (g.H.Rows.seen c.act.new.rows).reached in
+    let reached = (g.H.Readable.seen c.act.new.rows).reached in
     let tells = subst (λ n. Played (Inquires (Remarks (Rows n)) ∷ []) c.act.new.self c.append.new.self reached reached) (ap length c.as_slice.ensures)
     (remarked (Rows (length c.as_slice.result.now)) c.act.new.self c.append.new.self reached c.append.ensures.does c.append.ensures.entries) in
     played_then (SettlesHeld ∷ Changes c.args.admin.now Show ∷ []) (Inquires (Remarks (Rows (length c.in-Ok.answer))) ∷ []) c.args.session.now c.act.new.self c.append.new.self _ _ _ c.act.ensures.played tells

@@ -1,9 +1,12 @@
-use Rattle.std.proofs.Common.{sym, ◌∙◌}
+use Rattle.std.proofs.Common.{arith, sym, ◌∙◌}
 use Rattle.pfs_board_store.proofs.ActionCalls.{held_none, outside_is}
 use Rattle.pfs_board_store.proofs.rows.BoardRows.into_seats.Goals as goal
 
 pub returns-clause-held : goal.returns-clause-held
 returns-clause-held g c = held_none c.args.self.seat.view.rows c.requires.idle
+
+pub returns-clause-left : goal.returns-clause-left
+returns-clause-left g c = omega (arith, held_none c.args.self.seat.view.rows c.requires.idle)
 
 pub returns-clause-made : goal.returns-clause-made
 returns-clause-made g c = λ start calls r.

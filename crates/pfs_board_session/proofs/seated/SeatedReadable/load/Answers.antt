@@ -1,7 +1,7 @@
 use Rattle.std.proofs.Common.{◌∷◌, [], ◌∙◌}
 use Rattle.pfs_levels.specs.Calls.{Loads}
 use Rattle.pfs_board_session.proofs.SeatedSteps.{goes_on, idle_there, same_on, store_of}
-use Rattle.pfs_board_session.proofs.seated.SeatedRows.load.Goals as goal
+use Rattle.pfs_board_session.proofs.seated.SeatedReadable.load.Goals as goal
 
 pub returns-clause-call : goal.returns-clause-call
 returns-clause-call g c = goes_on _ g.N.Named.setting g.N.Named.change g.N.Shared.switches store_of c.args.self.now.rows _ c.load.new.self c.in-Some.is (Loads c.args.word c.load.result.0 c.load.result.1 ∷ []) (c.requires, tt) c.load.ensures.call

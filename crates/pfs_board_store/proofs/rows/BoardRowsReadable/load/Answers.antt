@@ -3,7 +3,7 @@ use Rattle.pfs_levels.specs.Calls.{Loads}
 use Rattle.pfs_board_store.proofs.CallLooks.{looked_on}
 use Rattle.pfs_board_store.proofs.CallTies.{apart}
 use Rattle.pfs_board_store.proofs.WordTies.{loaded_on}
-use Rattle.pfs_board_store.proofs.rows.BoardRowsRows.load.Goals as goal
+use Rattle.pfs_board_store.proofs.rows.BoardRowsReadable.load.Goals as goal
 
 pub returns-clause-call : goal.returns-clause-call
 returns-clause-call g c = λ start calls r.

@@ -1,7 +1,7 @@
 use Rattle.std.proofs.Common.{◌∷◌, [], ◌∙◌}
 use Rattle.pfs_levels.specs.Calls.{Reads}
 use Rattle.pfs_board_session.proofs.SeatedSteps.{goes_on, idle_there, same_on, store_of}
-use Rattle.pfs_board_session.proofs.seated.SeatedRows.read.Goals as goal
+use Rattle.pfs_board_session.proofs.seated.SeatedReadable.read.Goals as goal
 
 pub read-requires-clause-away : goal.read-requires-clause-away
 read-requires-clause-away g c = idle_there _ store_of c.args.self.now.rows _ c.in-Some.is c.args.self.now.idle c.args.row

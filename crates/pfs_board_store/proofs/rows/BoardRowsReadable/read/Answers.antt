@@ -7,7 +7,7 @@ use Rattle.pfs_rows.specs.declared.table.Seen.TheVariants as sees
 use Rattle.pfs_board_store.proofs.ViewCorners.{away_if, here_if}
 use Rattle.pfs_board_store.proofs.CallTies.{another_seen, glanced, sighted_now, finished_now, sight_more, read_more}
 use Rattle.pfs_board_store.proofs.CallLooks.{looked_more, read_now, saw_now}
-use Rattle.pfs_board_store.proofs.rows.BoardRowsRows.read.Goals as goal
+use Rattle.pfs_board_store.proofs.rows.BoardRowsReadable.read.Goals as goal
 
 pub returns-in-Whole-clause-call : goal.returns-in-Whole-clause-call
 returns-in-Whole-clause-call g c = λ start calls r.
