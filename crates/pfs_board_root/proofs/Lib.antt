@@ -1,4 +1,7 @@
-mod SeatSplits
-mod SeatJoins
+pub mod SeatSplits
+pub mod SeatJoins
 mod PhaseEnds
+mod ReadCalls
+mod OwnReadings
+mod Looks
 mod LaterActors

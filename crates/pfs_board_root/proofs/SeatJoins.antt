@@ -1,5 +1,6 @@
 -- A root takes an actor's seats in.
-use Rattle.std.proofs.Common.{ℕ, ◌≡◌, ◌+◌, ◌<◌, ◌≤◌, List, [], ◌∷◌, ◌++◌, length, slice_index, refl, ap, sym, ◌∙◌, subst, arith, length-append, append_assoc, append-nil}
+use Rattle.std.proofs.Common.{ℕ, ◌≡◌, ◌+◌, ◌<◌, ◌≤◌, List, [], ◌∷◌, ◌++◌, length, slice_index, refl, ap, sym, ◌∙◌, subst, arith, sum_by, length-append, append_assoc, append-nil}
+use Rattle.std.proofs.lemmas.List.Sums.{sum_by_push}
 use Rattle.atomic_table.specs.Seated.{TableId}
 use Rattle.pfs_admin.specs.declared.changes.Change.{Change}
 use Rattle.pfs_board.specs.Knowledge.{held, joined, stake}
@@ -65,9 +66,7 @@ module _ (board : BoardPlace) (switches : WordsPlace) (tickets : TableId) (b b' 
     seats = ap (λ (k : BoardKnown). k.view.seats) eb;
     words_seats = ap (λ (k : WordsKnown). k.view.seats) ew;
     draws_seats = ap (λ (k : TicketsKnown). k.view.seats) et;
-    allowance = omega (arith, ap (λ (k : BoardKnown). k.view.allowance) eb);
     stake_is = omega (arith, sum, m.made.board.stake_is);
-    left = omega (arith, ap (λ (k : TicketsKnown). k.view.draws) et);
     draws_are = omega (arith, ap (λ (k : TicketsKnown). k.view.draws) et, ap (λ (k : TicketsKnown). length k.view.tickets) et, length-append draws.view.tickets t.view.tickets, m.made.tickets.1);
     seen = λ word low. (seen word (omega (arith, low, wide))).0;
     kept = (record { keeps = is.keeps; inside = is.inside; named = λ word low. omega (arith, m.made.words.4 word, (seen word (omega (arith, low, wide))).1) }, tt);
@@ -84,9 +83,7 @@ taken_none setting change r = record {
   seats = refl;
   words_seats = refl;
   draws_seats = refl;
-  allowance = omega arith;
   stake_is = omega arith;
-  left = omega arith;
   draws_are = omega arith;
   seen = λ word low. omega arith;
   kept = tt;
@@ -107,14 +104,16 @@ taken_more setting change x ws r s u f g = record {
   seats = g.seats ∙ f.seats;
   words_seats = g.words_seats ∙ f.words_seats;
   draws_seats = g.draws_seats ∙ f.draws_seats;
-  allowance = omega (arith, f.allowance, g.allowance);
   stake_is = omega (arith, f.stake_is, g.stake_is);
-  left = omega (arith, f.left, g.left);
   draws_are = omega (arith, f.draws_are, g.draws_are);
   seen = λ word low. omega (arith, f.seen word low, g.seen word low);
   kept = (g.kept.0, kept_on setting change s.words.seen u.words.seen ws g.seen f.kept);
   gathered = λ before h. g.gathered (ws ++ before) (f.gathered before h);
 }
+
+-- what the last of them has left is given back: so much is left of all, where the others' is still to come
+pub given_back : {A : Type 0} (left : A → ℕ) (actors front : List A) (a : A) (all old new : ℕ) → actors ≡ front ++ a ∷ [] → new ≡ old + left a → old + sum_by left actors ≡ all → new + sum_by left front ≡ all
+given_back {A} left actors front a all old new is more e = omega (arith, more, e, ap (sum_by left) is, sum_by_push left front a)
 
 -- the last of a list of actors that are known
 pub record LastKnown {A : Type 0} (r : RootView) (reached : A → Opening → List Call → Type 0) (ws : List Worked) (front : List A) (a : A) : Type 0 where

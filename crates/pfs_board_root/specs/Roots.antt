@@ -2,7 +2,7 @@
 use Rattle.std.specs.Prelude.{ℕ, ◌≡◌, ◌+◌, ◌*◌, ◌<◌, ◌≤◌, false, List, [], ◌∷◌, ◌++◌, length, slice_index}
 use Rattle.atomic_table.specs.Seated.{TableId}
 use Rattle.pfs_admin.specs.declared.changes.Change.{Change}
-use Rattle.pfs_board.specs.Knowledge.{held, stake}
+use Rattle.pfs_board.specs.Knowledge.{held, spent as spent_seat, stake}
 use Rattle.pfs_board.specs.SeatViews.{Known as BoardKnown, Place as BoardPlace}
 use Rattle.pfs_board.specs.declared.view.Label.{Label}
 use Rattle.pfs_board.specs.declared.view.View.{View}
@@ -12,10 +12,11 @@ use Rattle.pfs_board_store.specs.RootActors.{AreGathered, Worked}
 use Rattle.pfs_classes.specs.declared.setting.Setting.{Setting}
 use Rattle.pfs_levels.specs.CallOrder.{top_word}
 use Rattle.pfs_levels.specs.Calls.{Call, Opening}
+use Rattle.pfs_switches.specs.Knowledge.{spent as spent_words}
 use Rattle.pfs_switches.specs.OpeningWords.{opening_words}
 use Rattle.pfs_switches.specs.SeatViews.{Known as WordsKnown, Place as WordsPlace}
 use Rattle.pfs_switches.specs.declared.view.View.{View as WordView}
-use Rattle.pfs_tickets.specs.Knowledge.{stake as all_of}
+use Rattle.pfs_tickets.specs.Knowledge.{spent as spent_draws, stake as all_of}
 use Rattle.pfs_tickets.specs.SeatViews.{Known as TicketsKnown}
 use Rattle.pfs_tickets.specs.declared.view.View.{View as TicketView}
 
@@ -132,9 +133,7 @@ pub record HasTakenIn (setting : Setting) (change : Label → Change) (ws : List
     pub seats : new.seat.seats ≡ old.seat.seats
     pub words_seats : new.words.seats ≡ old.words.seats
     pub draws_seats : new.draws.seats ≡ old.draws.seats
-    pub allowance : old.seat.allowance ≤ new.seat.allowance
     pub stake_is : stake new.seat ≡ stake old.seat + stakes ws
-    pub left : old.draws.draws ≤ new.draws.draws
     pub draws_are : all_of new.draws ≡ all_of old.draws + ticket_stakes ws
     pub seen : (word : ℕ) → word < 160 → slice_index old.words.seen word ≤ slice_index new.words.seen word
     pub kept : HaveKept setting change new.words.seen ws
@@ -145,3 +144,17 @@ pub record HasTakenIn (setting : Setting) (change : Label → Change) (ws : List
 abbrev pub AreSplit : {A : Type 0} → (A → Opening → List Call → Type 0) → (ℕ → Opening) → ℕ → List A → Type 0
 AreSplit reached opening n [] = Unit {0}
 AreSplit reached opening n (a ∷ actors) = reached a (opening n) [] × AreSplit reached opening (n + 1) actors
+
+-- of no root
+abbrev pub blank_table : TableId
+blank_table = record { words = 0; slots = 0; views_name = 0; atom = 0; block = 0; offset = 0; slot_names = [] }
+
+abbrev pub blank : RootView
+blank = record {
+  board = blank_table;
+  switches = blank_table;
+  tickets = blank_table;
+  seat = spent_seat;
+  words = spent_words;
+  draws = spent_draws;
+}

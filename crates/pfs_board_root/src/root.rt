@@ -1,14 +1,15 @@
 //! The root of a run over a board.
 
-ghost use Rattle.std.specs.Prelude.{◌≡◌, ◌*◌, ◌+◌, ◌<◌, ◌≤◌, [], ◌∷◌, ℕ, All, List, length, vec_capacity};
+ghost use Rattle.std.specs.Prelude.{◌≡◌, ◌*◌, ◌+◌, ◌<◌, ◌≤◌, [], ◌∷◌, ℕ, All, List, length, slice_index, sum_by, vec_capacity};
 ghost use Rattle.pfs_admin.specs.OpeningState.{opening_flags};
-ghost use Rattle.pfs_board.specs.Knowledge.{IsWhole, root as board_root};
+ghost use Rattle.pfs_board.specs.Knowledge.{IsWhole, held, root as board_root, stake};
+ghost use Rattle.pfs_board.specs.ReadAnswers.{IsSeenAs};
 ghost use Rattle.pfs_board.specs.SeatViews.{known as known_board};
 ghost use Rattle.pfs_board_admin.specs.LabelWords.{AllKeepWords, version_after};
 ghost use Rattle.pfs_board_store.specs.RootActors.{AreGathered, Worked, calls_of_all};
 ghost use Rattle.pfs_levels.specs.CallOrder.{AllCalls};
 ghost use Rattle.pfs_matching.specs.ObjectRules.{opening_objects};
-ghost use Rattle.pfs_switches.specs.Knowledge.{reader, whole};
+ghost use Rattle.pfs_switches.specs.Knowledge.{loaded, reader, whole};
 ghost use Rattle.pfs_switches.specs.OpeningWords.{opening_words};
 ghost use Rattle.pfs_switches.specs.SeatViews.{known as known_words};
 ghost use Rattle.pfs_tickets.specs.Knowledge.{IsWhole as HasAllDraws, root as tickets_root};
@@ -17,11 +18,11 @@ ghost use Rattle.pfs_board_root.specs.Roots.{AreKnown, AreSplit, HasSplit, HasTa
 ghost use Rattle.pfs_board_root.specs.Settlements.{HasSettled};
 
 use pfs_admin::Lost;
-use pfs_board::Board;
+use pfs_board::{Board, Seen as Shown};
 use pfs_board_admin::{Desk, Shared};
-use pfs_board_session::Seated;
+use pfs_board_session::{Gate, Seated};
 use pfs_board_store::{BoardRows, Seats, laws};
-use pfs_levels::Rows;
+use pfs_levels::Readable;
 use pfs_switches::Switches;
 use pfs_tickets::Tickets;
 use std::marker::Model;
@@ -80,18 +81,19 @@ impl<'b, N: Shared> Root<'b, N> {
     }
 
     /// One actor more: its seats are the next of their tables, and may make so many publications and draws.
-    pub fn split<'a, R: Wait>(
+    pub fn split<'a, R: Wait, G: Gate>(
         &mut self,
         rt: &'a R,
+        gate: &'a G,
         publications: u64,
         draws: u64,
-    ) -> Seated<'a, 'b, R, N>
+    ) -> Seated<'a, 'b, R, G, N>
         requires some { (0 < publications) × (publications < self.old.seat.allowance) }
         requires draws { draws ≤ self.old.draws.draws }
-        ensures began { (⟦<Seated<'a, 'b, R, N> as Rows>⟧.seen result).reached
+        ensures began { (⟦<Seated<'a, 'b, R, G, N> as Readable>⟧.seen result).reached
             (opening_at (opening_flags N.setting opening_objects) self.old publications draws 1) [] }
-        ensures left { (⟦<Seated<'a, 'b, R, N> as Rows>⟧.seen result).left ≡ publications }
-        ensures draws { (⟦<Seated<'a, 'b, R, N> as Rows>⟧.seen result).draws ≡ draws }
+        ensures left { (⟦<Seated<'a, 'b, R, G, N> as Readable>⟧.seen result).left ≡ publications }
+        ensures draws { (⟦<Seated<'a, 'b, R, G, N> as Readable>⟧.seen result).draws ≡ draws }
         ensures root { HasSplit 1 publications draws self.old self.new }
     {
         let seats = Seats {
@@ -101,15 +103,17 @@ impl<'b, N: Shared> Root<'b, N> {
         };
         Seated::new(
             rt,
+            gate,
             BoardRows::new(self.board, self.switches, self.tickets, seats),
         )
     }
 
     /// So many actors, into room that is there, each as `split` gives it, in the order of their numbers.
-    pub fn split_all<'a, R: Wait>(
+    pub fn split_all<'a, R: Wait, G: Gate>(
         &mut self,
         rt: &'a R,
-        actors: &mut Vec<Seated<'a, 'b, R, N>>,
+        gate: &'a G,
+        actors: &mut Vec<Seated<'a, 'b, R, G, N>>,
         count: u64,
         publications: u64,
         draws: u64,
@@ -117,25 +121,31 @@ impl<'b, N: Shared> Root<'b, N> {
         requires room { (actors.old.items ≡ []) × (count ≤ vec_capacity actors.old) }
         requires some { (0 < publications) × (count * publications < self.old.seat.allowance) }
         requires draws { count * draws ≤ self.old.draws.draws }
-        ensures began { AreSplit (λ a. (⟦<Seated<'a, 'b, R, N> as Rows>⟧.seen a).reached)
+        ensures began { AreSplit (λ a. (⟦<Seated<'a, 'b, R, G, N> as Readable>⟧.seen a).reached)
             (opening_at (opening_flags N.setting opening_objects) self.old publications draws) 1 actors.new.items }
-        ensures left { All (λ a. ((⟦<Seated<'a, 'b, R, N> as Rows>⟧.seen a).left ≡ publications)
-            × ((⟦<Seated<'a, 'b, R, N> as Rows>⟧.seen a).draws ≡ draws)) actors.new.items }
+        ensures left { All (λ a. ((⟦<Seated<'a, 'b, R, G, N> as Readable>⟧.seen a).left ≡ publications)
+            × ((⟦<Seated<'a, 'b, R, G, N> as Readable>⟧.seen a).draws ≡ draws)) actors.new.items }
         ensures count { length actors.new.items ≡ count }
         ensures root { HasSplit count publications draws self.old self.new }
     {
         for _ in 0..count {
-            let actor = self.split(rt, publications, draws);
+            let actor = self.split(rt, gate, publications, draws);
             actors.push_reserved(actor);
         }
     }
 
-    /// An actor's seats are taken in. Its seats are of these tables, as is known of some list of calls that led to it.
-    pub fn take_in<'a, R: Wait>(&mut self, actor: Seated<'a, 'b, R, N>)
-        requires known { (w : Worked) × IsKnown self.old (λ a. (⟦<Seated<'a, 'b, R, N> as Rows>⟧.seen a).reached) w
-            actor }
-        ensures taken { (w : Worked) → IsKnown self.old (λ a. (⟦<Seated<'a, 'b, R, N> as Rows>⟧.seen a).reached) w
-            actor.entry → HasTakenIn N.setting N.change (w ∷ []) self.old self.new }
+    /// An actor's seats are taken in, and what it has left is the root's again. They are of these tables, as is known
+    /// of some list of calls that led to it.
+    pub fn take_in<'a, R: Wait, G: Gate>(&mut self, actor: Seated<'a, 'b, R, G, N>)
+        requires known { (w : Worked) × IsKnown self.old
+            (λ a. (⟦<Seated<'a, 'b, R, G, N> as Readable>⟧.seen a).reached) w actor }
+        ensures taken { (w : Worked) → IsKnown self.old
+            (λ a. (⟦<Seated<'a, 'b, R, G, N> as Readable>⟧.seen a).reached) w actor.entry
+            → HasTakenIn N.setting N.change (w ∷ []) self.old self.new }
+        ensures back { self.new.seat.allowance ≡ self.old.seat.allowance
+            + (⟦<Seated<'a, 'b, R, G, N> as Readable>⟧.seen actor.entry).left }
+        ensures draws_back { self.new.draws.draws ≡ self.old.draws.draws
+            + (⟦<Seated<'a, 'b, R, G, N> as Readable>⟧.seen actor.entry).draws }
     {
         laws::gathered();
         let Seats {
@@ -148,13 +158,18 @@ impl<'b, N: Shared> Root<'b, N> {
         self.tickets.join(&mut self.seats.tickets, tickets);
     }
 
-    /// All actors' seats are taken in, the last one first, so that the root has their lists in the actors' order.
-    pub fn take_all<'a, R: Wait>(&mut self, actors: Vec<Seated<'a, 'b, R, N>>)
+    /// All actors' seats are taken in, the last one first, so that the root has their lists in the actors' order, and
+    /// all that they have left.
+    pub fn take_all<'a, R: Wait, G: Gate>(&mut self, actors: Vec<Seated<'a, 'b, R, G, N>>)
         requires known { (ws : List Worked) × AreKnown self.old
-            (λ a. (⟦<Seated<'a, 'b, R, N> as Rows>⟧.seen a).reached) ws actors.items }
+            (λ a. (⟦<Seated<'a, 'b, R, G, N> as Readable>⟧.seen a).reached) ws actors.items }
         ensures taken { (ws : List Worked) → AreKnown self.old
-            (λ a. (⟦<Seated<'a, 'b, R, N> as Rows>⟧.seen a).reached) ws actors.entry.items
+            (λ a. (⟦<Seated<'a, 'b, R, G, N> as Readable>⟧.seen a).reached) ws actors.entry.items
             → HasTakenIn N.setting N.change ws self.old self.new }
+        ensures back { self.new.seat.allowance ≡ self.old.seat.allowance
+            + sum_by (λ a. (⟦<Seated<'a, 'b, R, G, N> as Readable>⟧.seen a).left) actors.entry.items }
+        ensures draws_back { self.new.draws.draws ≡ self.old.draws.draws
+            + sum_by (λ a. (⟦<Seated<'a, 'b, R, G, N> as Readable>⟧.seen a).draws) actors.entry.items }
     {
         let mut actors = actors;
         while let Some(actor) = actors.pop() {
@@ -170,6 +185,7 @@ impl<'b, N: Shared> Root<'b, N> {
             → AllCalls (AllKeepWords (version_after N.setting N.change)) (calls_of_all actors)
             → HasSettled N.setting N.change (opening_flags N.setting opening_objects) N.switches actors result self.old
             self.new }
+        ensures whole { IsWhole self.new.seat × HasAllDraws self.new.draws }
     {
         laws::met();
         let desk = self.board.lend(&mut self.seats.board);
@@ -180,5 +196,42 @@ impl<'b, N: Shared> Root<'b, N> {
         self.board
             .restore(&mut self.seats.board, Desk::new(admin, writer));
         lost
+    }
+
+    // What holds between calls.
+    pub(crate) fn tell(&self)
+        ensures outside { (self.now.seat.action ≡ 0) × (self.now.seat.after ≡ 0) }
+        ensures empty { held self.now.seat.rows ≡ 0 }
+        ensures opened { self.now.words.start ≡ opening_words (opening_flags N.setting opening_objects) }
+    {
+        let _ = &self.seats;
+    }
+
+    // Reads a row.
+    pub(crate) fn look(&mut self, row: u64) -> Shown
+        requires row { row < 14242 }
+        ensures outside { (self.old.seat.action ≡ 0) × (self.old.seat.after ≡ 0)
+            × (14242 ≤ length self.old.seat.rows) }
+        ensures seen { IsSeenAs self.old.seat row result self.new.seat }
+        ensures stake { stake self.new.seat ≡ stake self.old.seat }
+        ensures tables { (self.new.board ≡ self.old.board) × (self.new.switches ≡ self.old.switches)
+            × (self.new.tickets ≡ self.old.tickets) }
+        ensures others { (self.new.words ≡ self.old.words) × (self.new.draws ≡ self.old.draws) }
+    {
+        self.board.read(&mut self.seats.board, row)
+    }
+
+    // Loads a word.
+    pub(crate) fn load(&mut self, word: u64) -> (u64, u16)
+        requires low { word < 160 }
+        ensures wide { 160 ≤ length self.old.words.seen }
+        ensures later { slice_index self.old.words.seen word ≤ result.0 }
+        ensures seen { (at : ℕ) → slice_index self.old.words.seen at ≤ slice_index self.new.words.seen at }
+        ensures words { self.new.words ≡ loaded self.old.words word result.0 result.1 }
+        ensures tables { (self.new.board ≡ self.old.board) × (self.new.switches ≡ self.old.switches)
+            × (self.new.tickets ≡ self.old.tickets) }
+        ensures others { (self.new.seat ≡ self.old.seat) × (self.new.draws ≡ self.old.draws) }
+    {
+        self.switches.load(&mut self.seats.switches, word)
     }
 }

@@ -1,4 +1,5 @@
 use Rattle.std.proofs.Common.{List, ◌∙◌, subst, sym}
+use Rattle.pfs_board.specs.Knowledge.{IsWhole}
 use Rattle.pfs_board.specs.declared.view.Label.{Label}
 use Rattle.pfs_board_admin.specs.Desks.{IsDesk}
 use Rattle.pfs_board_admin.proofs.DeskActions.{same_desk}
@@ -7,6 +8,8 @@ use Rattle.pfs_switches.specs.SeatViews.{Known}
 use Rattle.pfs_switches.specs.SharedKnowledge.{IsTold}
 use Rattle.pfs_admin.specs.OpeningState.{opening_flags}
 use Rattle.pfs_matching.specs.ObjectRules.{opening_objects}
+use Rattle.pfs_tickets.specs.Knowledge.{IsWhole as HasAllDraws}
+use Rattle.pfs_tickets.specs.SeatViews.{Known as TicketsKnown}
 use Rattle.pfs_board_root.specs.Roots.{RootView, root_view}
 use Rattle.pfs_board_root.specs.Settlements.{HasSettled}
 use Rattle.pfs_board_root.proofs.PhaseEnds.{settles}
@@ -28,4 +31,8 @@ returns g c = record {
       (settles r.board.now r.switches.now r.tickets.now r.seats.board c.restore.new.seat r.seats.switches c.meet.new.seat parts.result.1 r.seats.tickets c.tell.new.seat
       (c.restore.ensures.view ∙ c.lend-desk.ensures.view.1) c.meet.ensures.seat c.tell.ensures.seat c.met.ensures setting change run c.self.invariant history.0 history.1 parts.result.0
       (subst (λ (labels : List Label). IsDesk setting change run labels parts.result.0 parts.result.1) history.2 desk) told c.tell.ensures.complete c.lost-lost.result c.lost-lost.ensures actors here keep);
+  whole =
+      let seat = subst (λ (z : RootView). IsWhole z.seat) (sym c.self.view_is) c.requires.whole.0 in
+      let draws = subst (λ (z : RootView). HasAllDraws z.draws) (sym c.self.view_is) c.requires.whole.1 in
+      (subst IsWhole (sym (c.restore.ensures.view ∙ c.lend-desk.ensures.view.1)) seat, subst (λ (k : TicketsKnown). HasAllDraws k.view) (sym c.tell.ensures.seat) draws);
 }
