@@ -1,14 +1,8 @@
 mod BlockStarts
 mod RunStart
 mod RunPhaseEnds
-mod LostEventBounds
-mod LostDigestBounds
 mod RunKnowledge
-mod BlockPlaces
-mod SessionLengths
-mod ReadySessions
 mod ReportedPhases
 mod RunProgress
 mod RunnerState
 mod RunSteps
-mod SelectLines

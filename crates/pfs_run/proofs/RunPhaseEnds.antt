@@ -1,5 +1,5 @@
 -- A run behind the end of a phase.
-use Rattle.std.proofs.Common.{ℕ, suc, ◌≡◌, ◌≤◌, ◌+◌, ◌*◌, ◌^◌, List, [], ◌∷◌, ◌++◌, length, append-nil, length-append, Option, refl, ap, sym, ◌∙◌, subst, arith}
+use Rattle.std.proofs.Common.{ℕ, suc, ◌≡◌, ◌≤◌, ◌+◌, ◌*◌, ◌^◌, List, [], ◌∷◌, ◌++◌, length, append-nil, length-append, refl, ap, sym, ◌∙◌, subst, arith}
 use Rattle.std.specs.List.{flat_map}
 use Rattle.std.proofs.lemmas.List.Elements.{All-push}
 use Rattle.pfs_admin.specs.AdministrationStates.{State as Administration}
@@ -38,16 +38,11 @@ use Rattle.pfs_runs.specs.ScriptLines.{change_in}
 use Rattle.pfs_runs.specs.Runs.{AreFinal}
 use Rattle.pfs_script.specs.declared.blocks.Block.{Block}
 use Rattle.pfs_script.specs.declared.blocks.Phase.{Phase}
-use Rattle.pfs_run.specs.RunPositions.{IsAlong, Sits, Standing, depth_of, position, seat_of}
+use Rattle.pfs_seats.proofs.ReportedPhases.{told_long}
+use Rattle.pfs_seats.specs.Seats.{Sits, depth_of, seat_of}
+use Rattle.pfs_run.specs.RunPositions.{IsAlong, Standing, position}
 
--- the reports of phases are as many as these
-told_long : (setting : Setting) (number : ℕ) (phases : List Phase) (reports : List PhaseParts) (spells : List Spell) → ArePhasesTold setting number phases reports spells → length reports ≡ length phases
-told_long setting number [] [] spells are = refl
-told_long setting number [] (y ∷ ys) spells are = absurd are
-told_long setting number (x ∷ xs) [] spells are = absurd are
-told_long setting number (x ∷ xs) (y ∷ ys) spells are = ap suc (told_long setting (number + 1) xs ys are.1 are.3)
-
--- and their spells stand in them
+-- the spells of phases that are told stand in them
 abbrev AreUpTo : ℕ → List Spell → Type 0
 AreUpTo most spells = Each (λ spell. spell.phase ≤ most) spells
 

@@ -24,7 +24,8 @@ use Rattle.pfs_runs.specs.ScriptLines.{change_in, facts_in}
 use Rattle.pfs_runs.specs.Runs.{AreFinal, IsPlainRun}
 use Rattle.pfs_script.specs.declared.blocks.Block.{Block}
 use Rattle.pfs_script.specs.declared.blocks.Phase.{Phase}
-use Rattle.pfs_run.specs.RunPositions.{IsAlong, Standing, depth_of, position}
+use Rattle.pfs_seats.specs.Seats.{depth_of}
+use Rattle.pfs_run.specs.RunPositions.{IsAlong, Standing, position}
 
 -- an element of a list stands between those before it and those behind
 pub parted : {A : Type 0} (xs : List A) (i : ℕ) (x : A) → i < length xs → x ≡ get_or xs i x → drop i xs ≡ x ∷ drop (i + 1) xs

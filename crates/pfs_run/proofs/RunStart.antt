@@ -1,5 +1,5 @@
 -- A run before its first block.
-use Rattle.std.proofs.Common.{ℕ, ◌≡◌, ◌≤◌, ◌-◌, ◌^◌, List, [], length, map, replicate, Option, Some, None, refl, ap, sym, ◌∙◌, subst, arith}
+use Rattle.std.proofs.Common.{ℕ, ◌≡◌, ◌≤◌, ◌-◌, ◌^◌, List, [], length, replicate, Option, None, refl, ap, sym, ◌∙◌, subst, arith}
 use Rattle.std.specs.List.{All}
 use Rattle.std.proofs.lemmas.List.Elements.{All-nil}
 use Rattle.std.proofs.lemmas.List.{get_or-replicate, length-replicate}
@@ -23,7 +23,8 @@ use Rattle.pfs_runs.specs.ScriptLines.{change_in}
 use Rattle.pfs_runs.specs.Runs.{AreFinal}
 use Rattle.pfs_script.specs.declared.blocks.Phase.{Phase}
 use Rattle.pfs_session.specs.SessionStates.{Book}
-use Rattle.pfs_run.specs.RunPositions.{IsAlong, Sits, Standing, depth_of, position, seat_of}
+use Rattle.pfs_seats.specs.Seats.{Sits, depth_of, seat_of}
+use Rattle.pfs_run.specs.RunPositions.{IsAlong, Standing, position}
 
 -- no seat is taken
 empty_seat : (session : ℕ) (seats : List (Option Book)) → seats ≡ replicate 64 None → 1 ≤ session → session ≤ 64 → seat_of seats session ≡ None

@@ -1,7 +1,5 @@
 -- A run behind one block more.
-use Rattle.std.proofs.Common.{ℕ, ◌≡◌, ◌≤◌, ◌+◌, ◌==◌, true, false, cond, List, [], ◌∷◌, ◌++◌, length, Option, Some, None, refl, ap, sym, ◌∙◌, subst, length-append, append-nil, eq-eqb, arith}
-use Rattle.std.specs.List.{flat_map}
-use Rattle.std.proofs.lemmas.Grind.{flat_map-append}
+use Rattle.std.proofs.Common.{ℕ, ◌≡◌, ◌≤◌, ◌+◌, false, List, [], ◌∷◌, ◌++◌, length, ap, sym, ◌∙◌, subst, length-append}
 use Rattle.pfs_actor.specs.ActorDeeds.{AreLabelled, HaveLed}
 use Rattle.pfs_admin.specs.declared.changes.Change.{Change}
 use Rattle.pfs_board.specs.declared.view.Label.{Label}
@@ -11,37 +9,31 @@ use Rattle.pfs_blocks.specs.PlayedBlocks.{HasPlayed}
 use Rattle.pfs_classes.specs.declared.setting.Setting.{Setting}
 use Rattle.pfs_law_script.specs.BlocksAhead.{NoneIsOver, ahead_of, block_at, done_before}
 use Rattle.pfs_law_plain.proofs.NextSpell.{calls_more}
-use Rattle.pfs_law_script.specs.Course.{IsCourse, PhasedBlock, asks_of, own_blocks, session_at}
+use Rattle.pfs_law_script.specs.Course.{IsCourse, PhasedBlock, asks_of, session_at}
 use Rattle.pfs_law_script.specs.CourseSteps.{IsOneMore, IsPlayed, spell_at}
 use Rattle.pfs_law_script.proofs.BlocksAhead.{done_block}
-use Rattle.pfs_law_script.proofs.BlockChanges.{own_more}
 use Rattle.pfs_law_script.proofs.CourseSteps.{one_more}
 use Rattle.pfs_law_report.specs.LostCounts.{lost_digests, lost_statements, lost_waits}
 use Rattle.pfs_event.specs.declared.entry.Entry.{Entry}
 use Rattle.pfs_law_plain.specs.ToldAnswers.{Answers}
-use Rattle.pfs_law_plain.specs.LineSteps.{kinds_at}
 use Rattle.pfs_levels.specs.Calls.{Call, Opening}
 use Rattle.pfs_levels.specs.PlainStore.{AllAnswer}
 use Rattle.pfs_matching.specs.ObjectRules.{opening_objects}
 use Rattle.pfs_model.specs.JournalCuts.{joined}
 use Rattle.pfs_law_session.specs.Deeds.{Part}
-use Rattle.pfs_law_session.specs.JournalLaws.{AreParts, MayDoAll, entries_of, over_behind, state_behind}
-use Rattle.pfs_law_session.specs.Stints.{resumed}
-use Rattle.pfs_play.specs.Errands.{AreFor, StagesLie, actions_on, kinds_after}
-use Rattle.pfs_law_script.specs.PlayableBlocks.{kinds_left}
+use Rattle.pfs_law_session.specs.JournalLaws.{AreParts, MayDoAll, entries_of, state_behind}
+use Rattle.pfs_play.specs.Errands.{AreFor}
 use Rattle.pfs_law_plain.proofs.ReadCalls.{LeadAlike, answers_more}
 use Rattle.pfs_runs.specs.SelectAnswers.{Answer, AreAnswers, selections_in}
 use Rattle.pfs_runs.specs.ScriptLines.{change_in}
 use Rattle.pfs_script.specs.Marks.{written_out}
 use Rattle.pfs_script.specs.declared.blocks.Block.{Block}
-use Rattle.pfs_script.specs.declared.blocks.BlockLine.{BlockLine}
 use Rattle.pfs_script.specs.declared.blocks.Phase.{Phase}
-use Rattle.pfs_session.specs.SessionStates.{State, Book, nothing_held}
-use Rattle.pfs_run.specs.RunPositions.{IsWaiting, Sits, depth_of, lines_at}
-use Rattle.pfs_run.proofs.LostDigestBounds.{block_digests}
-use Rattle.pfs_run.proofs.LostEventBounds.{block_few}
-use Rattle.pfs_run.proofs.BlockPlaces.{IsHere}
-use Rattle.pfs_run.proofs.ReadySessions.{IsReady}
+use Rattle.pfs_session.specs.SessionStates.{State, Book}
+use Rattle.pfs_seats.proofs.BlockPlaces.{IsHere}
+use Rattle.pfs_seats.proofs.LostDigestBounds.{block_digests}
+use Rattle.pfs_seats.proofs.LostEventBounds.{block_few}
+use Rattle.pfs_seats.specs.Seats.{depth_of}
 
 -- what the session did at its block, as the course has it
 pub record IsDone (setting : Setting) (phases before : List Phase) (first : List Block) (block : Block) (others : List Block) (after : List Phase) (spells : List Spell) (book paused : Book) (answers : List Answer) (start : Opening) (calls : List Call)
@@ -60,7 +52,7 @@ pub record IsDone (setting : Setting) (phases before : List Phase) (first : List
   pub answered : AreAnswers (Answers setting) (selections_in block) (parts_in doings) answers
 
 pub is_done : (setting : Setting) (phases before : List Phase) (first : List Block) (block : Block) (others : List Block) (after : List Phase) (spells : List Spell) (book paused : Book) (answers : List Answer) (start : Opening) (calls : List Call)
-    (was now : Opening → List Call → Type 0) → IsHere setting phases before first block others after → IsCourse setting (change_in phases) (depth_of phases) (done_before before first) spells
+    (was now : Opening → List Call → Type 0) → IsHere setting phases before first block others after (done_before before first) → IsCourse setting (change_in phases) (depth_of phases) (done_before before first) spells
     → AllAnswer (opening_flags setting opening_objects) (calls_of spells) → NoneIsOver spells (block_at before block ∷ ahead_of before others after) → book.state ≡ session_at setting (depth_of phases) spells block.session → book.journal.entries ≡ []
     → HasPlayed setting setting (change_in phases) block book paused [] answers was now → start.flags ≡ opening_flags setting opening_objects → was start calls → LeadAlike calls (calls_of spells)
     → ((more : List Call) → now start more → AllAnswer start.flags more) → length (written_out block.lines) ≤ 200000 → IsDone setting phases before first block others after spells book paused answers start calls now
@@ -119,64 +111,3 @@ in_run setting fixed change other block book paused answers behind was now same 
 -- the blocks so far, with one more
 pub more_done : (before : List Phase) (first : List Block) (block : Block) → length (done_before before (first ++ block ∷ [])) ≡ length (done_before before first) + 1
 more_done before first block = ap length (done_block before first block) ∙ length-append (done_before before first) (block_at before block ∷ [])
-
--- a session that isn't the block's waits as it did
-pub others_by : (setting : Setting) (phases before : List Phase) (first : List Block) (block : Block) (spells : List Spell) (doings : List Doing) (session : ℕ) (seat : Option Book)
-    → IsOneMore setting (change_in phases) (depth_of phases) (done_before before first) spells (block_at before block) doings → (block.session == session) ≡ false
-    → Sits setting phases (done_before before first) spells session seat → Sits setting phases (done_before before (first ++ block ∷ [])) (spells ++ spell_at (block_at before block) doings ∷ []) session seat
-others_by setting phases before first block spells doings session None more other sits =
-    ap (own_blocks session) (done_block before first block) ∙ (own_more session (done_before before first) (block_at before block) ∙ (ap (λ b. own_blocks session (done_before before first) ++ cond b (block ∷ []) []) other ∙ (append-nil _ ∙ sits)))
-others_by setting phases before first block spells doings session (Some book) more other sits =
-    let own : own_blocks session (done_before before (first ++ block ∷ [])) ≡ own_blocks session (done_before before first) =
-    ap (own_blocks session) (done_block before first block) ∙ (own_more session (done_before before first) (block_at before block) ∙ (ap (λ b. own_blocks session (done_before before first) ++ cond b (block ∷ []) []) other ∙ append-nil _)) in
-    let count = more_done before first block in
-    record {
-      begun = λ none. sits.begun (sym own ∙ none);
-      state = sits.state ∙ sym (more.others session other);
-      entries = sits.entries;
-      depth = sits.depth;
-      free = sits.free;
-      kinds = sits.kinds ∙ ap (λ (bs : List Block). kinds_left (flat_map (λ (block : Block). written_out block.lines) bs)) (sym own);
-      lie = sits.lie;
-      drawn = omega (arith, count, sits.drawn);
-      actions = omega (arith, count, sits.actions);
-    }
-
--- the lines of a session with those of one block more
-lines_more : (session : ℕ) (before : List Phase) (first : List Block) (block : Block) → (block.session == session) ≡ true → lines_at session (done_before before (first ++ block ∷ [])) ≡ lines_at session (done_before before first) ++ written_out block.lines
-lines_more session before first block own =
-    let write = λ (block : Block). written_out block.lines in
-    ap (λ (done : List PhasedBlock). flat_map (λ (block : Block). written_out block.lines) (own_blocks session done)) (done_block before first block)
-    ∙ (ap (flat_map (λ (block : Block). written_out block.lines)) (own_more session (done_before before first) (block_at before block) ∙ ap (λ b. own_blocks session (done_before before first) ++ cond b (block ∷ []) []) own)
-    ∙ (flat_map-append (λ (block : Block). written_out block.lines) (own_blocks session (done_before before first)) (block ∷ []) ∙ ap (λ (z : List BlockLine). lines_at session (done_before before first) ++ z) (append-nil (written_out block.lines))))
-
-some_blocks : (blocks : List Block) (block : Block) → blocks ++ block ∷ [] ≡ [] → ⊥
-some_blocks [] block e = cc
-some_blocks (b ∷ bs) block e = cc
-
--- the block's session waits for its next block
-pub own_waits : (setting : Setting) (phases before : List Phase) (first : List Block) (block : Block) (others : List Block) (after : List Phase) (spells : List Spell) (doings : List Doing) (book paused waiting : Book)
-    → IsHere setting phases before first block others after → IsReady setting phases (done_before before first) spells block book
-    → IsOneMore setting (change_in phases) (depth_of phases) (done_before before first) spells (block_at before block) doings
-    → paused.state ≡ state_behind (session_at setting (depth_of phases) spells block.session) (parts_in doings) → waiting.state ≡ paused.state → waiting.journal.entries ≡ [] → paused.state.held ≡ nothing_held
-    → kinds_at paused.state ≡ kinds_after (kinds_at book.state) (written_out block.lines) → StagesLie (kinds_at paused.state) → paused.state.drawn ≤ book.state.drawn + length (written_out block.lines)
-    → paused.state.opened.depth ≡ book.state.opened.depth → paused.state.actions ≤ book.state.actions + actions_on (written_out block.lines) + 2 → kinds_after (kinds_at book.state) (written_out block.lines) ≡ kinds_left (lines_at block.session (done_before before first) ++ written_out block.lines)
-    → IsWaiting setting phases (done_before before (first ++ block ∷ [])) (spells ++ spell_at (block_at before block) doings ∷ []) block.session waiting
-own_waits setting phases before first block others after spells doings book paused waiting here ready more state same entries free kinds lie drawn depth actions left =
-    let own : (block.session == block.session) ≡ true = eq-eqb block.session block.session refl in
-    let count = more_done before first block in
-    let short = here.playable.short in
-    let drawn_same = ap (λ (s : State). s.drawn) same in
-    let actions_same = ap (λ (s : State). s.actions) same in
-    record {
-      begun = λ none. some_blocks (own_blocks block.session (done_before before first)) block
-          (sym (ap (own_blocks block.session) (done_block before first block) ∙ (own_more block.session (done_before before first) (block_at before block) ∙ ap (λ b. own_blocks block.session (done_before before first) ++ cond b (block ∷ []) []) own)) ∙ none);
-      state = ap resumed (same ∙ state) ∙ sym more.own;
-      entries = entries;
-      depth = ap (λ (s : State). s.opened.depth) same ∙ (depth ∙ ready.depth);
-      free = ap (λ (s : State). s.held) same ∙ free;
-      kinds = ap (λ (s : State). kinds_at s) same ∙ (kinds ∙ (left ∙ ap kinds_left (sym (lines_more block.session before first block own))));
-      lie = subst (λ (s : State). StagesLie (kinds_at s)) (sym same) lie;
-      drawn = omega (arith, count, short, drawn_same, drawn, ready.drawn);
-      actions = omega (arith, count, here.rare, actions_same, actions, ready.actions);
-    }

@@ -4,7 +4,6 @@
 mod naming;
 mod run;
 mod runner;
-mod seats;
 
 pub use run::run_plain;
 pub use std::alloc::AllocError as NoMemory;

@@ -15,7 +15,7 @@ use pfs_actor::PlainActor;
 use pfs_admin::Named;
 use pfs_classes::Setting;
 use pfs_journal::{PhaseList, Report, ReportParts};
-use pfs_levels::Rows;
+use pfs_levels::Readable;
 use pfs_script::Phase;
 use std::alloc::Global;
 use std::marker::Brand;
@@ -85,14 +85,14 @@ fn run_phase<N: Named>(
     requires here { (before : List SaidPhase) × (after : List SaidPhase)
         × (phases.now ≡ before ++ phase.now ∷ after)
         × IsAlong setting.now phases.now (position before [] (numbered (1 + length before) (phase.now ∷ after)))
-        (standing (⟦<PlainActor<N> as Rows>⟧.seen runner.old.actor) runner.old.progress) }
+        (standing (⟦<PlainActor<N> as Readable>⟧.seen runner.old.actor) runner.old.progress) }
     ensures { OnOk result ((before : List SaidPhase) → (after : List SaidPhase)
         → phases.now ≡ before ++ phase.now ∷ after
         → IsAlong setting.now phases.now (position before [] (numbered (1 + length before) (phase.now ∷ after)))
-        (standing (⟦<PlainActor<N> as Rows>⟧.seen runner.old.actor) runner.old.progress)
+        (standing (⟦<PlainActor<N> as Readable>⟧.seen runner.old.actor) runner.old.progress)
         → IsAlong setting.now phases.now (position (before ++ phase.now ∷ []) []
         (numbered (1 + length (before ++ phase.now ∷ [])) after))
-        (standing (⟦<PlainActor<N> as Rows>⟧.seen runner.new.actor) runner.new.progress)) }
+        (standing (⟦<PlainActor<N> as Readable>⟧.seen runner.new.actor) runner.new.progress)) }
 {
     pfs_law_report::report_values::names();
     pfs_law_report::report_values::texts();

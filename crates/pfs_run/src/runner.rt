@@ -17,7 +17,6 @@ ghost use Rattle.pfs_runs.specs.ScriptLines.{change_in};
 ghost use Rattle.pfs_run.specs.RunPositions.{IsAlong, position, standing};
 
 use crate::NoMemory;
-use crate::seats::{empty_seats, keep_seat, take_seat};
 use pfs_actor::PlainActor;
 use pfs_admin::Named;
 use pfs_blocks::play_block;
@@ -25,9 +24,10 @@ use pfs_classes::Setting;
 use pfs_finals::{LostCounters, final_tables, lost_rows};
 use pfs_journal::{AnswerList, BlockList, BlockReport, EntryList, PhaseParts, PhaseReport};
 use pfs_law_report::{LostEvents, count_lost};
-use pfs_levels::Rows;
+use pfs_levels::Readable;
 use pfs_play::written_cost;
 use pfs_script::{Block, Phase};
+use pfs_seats::{empty_seats, keep_seat, take_seat};
 use pfs_session::Paused;
 use std::alloc::Global;
 
@@ -68,7 +68,7 @@ impl<N: Named> Runner<N> {
     pub fn open(alloc: Global, setting: &Setting) -> Result<Runner<N>, NoMemory>
         requires setting { N.setting ≡ setting.now }
         ensures { IfOk result (λ runner. (phases : List SaidPhase) → IsAlong setting.now phases (position [] []
-            (numbered 1 phases)) (standing (⟦<PlainActor<N> as Rows>⟧.seen runner.actor) runner.progress)) }
+            (numbered 1 phases)) (standing (⟦<PlainActor<N> as Readable>⟧.seen runner.actor) runner.progress)) }
     {
         pfs_law_script::runs::no_course();
         Ok(Runner {
@@ -98,15 +98,15 @@ impl<N: Named> Runner<N> {
             × (phases.now ≡ before ++ record { blocks = first ++ block.now ∷ others } ∷ after)
             × IsAlong setting.now phases.now
             (position before first (block_at before block.now ∷ ahead_of before others after))
-            (standing (⟦<PlainActor<N> as Rows>⟧.seen self.old.actor) self.old.progress) }
+            (standing (⟦<PlainActor<N> as Readable>⟧.seen self.old.actor) self.old.progress) }
         ensures { OnOk result ((before : List SaidPhase) → (first : List Said) → (others : List Said)
             → (after : List SaidPhase)
             → phases.now ≡ before ++ record { blocks = first ++ block.now ∷ others } ∷ after
             → IsAlong setting.now phases.now
             (position before first (block_at before block.now ∷ ahead_of before others after))
-            (standing (⟦<PlainActor<N> as Rows>⟧.seen self.old.actor) self.old.progress)
+            (standing (⟦<PlainActor<N> as Readable>⟧.seen self.old.actor) self.old.progress)
             → IsAlong setting.now phases.now (position before (first ++ block.now ∷ []) (ahead_of before others after))
-            (standing (⟦<PlainActor<N> as Rows>⟧.seen self.new.actor) self.new.progress)) }
+            (standing (⟦<PlainActor<N> as Readable>⟧.seen self.new.actor) self.new.progress)) }
     {
         pfs_law_script::blocks::playable();
         pfs_law_script::blocks::few();
@@ -151,14 +151,14 @@ impl<N: Named> Runner<N> {
         requires here { (text : List ℕ) × (phases : List SaidPhase) × (before : List SaidPhase) × (first : List Said)
             × (after : List SaidPhase) × IsScript text setting.now phases × (N.change ≡ change_in phases)
             × IsAlong setting.now phases (position before first (ahead_of before [] after))
-            (standing (⟦<PlainActor<N> as Rows>⟧.seen self.old.actor) self.old.progress) }
+            (standing (⟦<PlainActor<N> as Readable>⟧.seen self.old.actor) self.old.progress) }
         ensures { OnOk result ((phases : List SaidPhase) → (before : List SaidPhase) → (first : List Said)
             → (after : List SaidPhase) → N.change ≡ change_in phases
             → IsAlong setting.now phases (position before first (ahead_of before [] after))
-            (standing (⟦<PlainActor<N> as Rows>⟧.seen self.old.actor) self.old.progress)
+            (standing (⟦<PlainActor<N> as Readable>⟧.seen self.old.actor) self.old.progress)
             → IsAlong setting.now phases (position (before ++ record { blocks = first } ∷ []) []
             (numbered (1 + length (before ++ record { blocks = first } ∷ [])) after))
-            (standing (⟦<PlainActor<N> as Rows>⟧.seen self.new.actor) self.new.progress)) }
+            (standing (⟦<PlainActor<N> as Readable>⟧.seen self.new.actor) self.new.progress)) }
     {
         pfs_law_report::report_values::tables();
         pfs_law_plain::journals::alone();
@@ -181,7 +181,7 @@ impl<N: Named> Runner<N> {
     // What was lost so far: of containers by the labels of the actions that were done.
     fn counters(&self) -> LostCounters
         ensures containers { (start : Opening) → (calls : List Call)
-            → (⟦<PlainActor<N> as Rows>⟧.seen self.now.actor).reached start calls
+            → (⟦<PlainActor<N> as Readable>⟧.seen self.now.actor).reached start calls
             → lost_in (state_of N.setting N.change (labels_after calls)).kept.now ≡ record {
               threads = result.threads;
               accounts = result.accounts;

@@ -1,4 +1,4 @@
-use Rattle.std.proofs.Common.{◌≡◌, ◌+◌, ◌++◌, ◌∷◌, [], List, ap, refl, ◌∙◌, subst, sym, arith}
+use Rattle.std.proofs.Common.{◌≡◌, ◌+◌, ◌++◌, ◌∷◌, [], ap, refl, ◌∙◌, subst, sym, arith}
 use Rattle.std.specs.List.{All}
 use Rattle.pfs_admin.specs.Fold.{state_of}
 use Rattle.pfs_admin.specs.declared.changes.Change.{Change}
@@ -9,7 +9,8 @@ use Rattle.pfs_levels.specs.PlainStore.{labels_after}
 use Rattle.pfs_journal.specs.Reports.{IsBlock}
 use Rattle.pfs_journal.specs.declared.report.PhaseParts.{PhaseParts}
 use Rattle.pfs_run.proofs.RunPhaseEnds.{ended_along, lost_of}
-use Rattle.pfs_run.proofs.ReportedPhases.{blocks_good, tables_good}
+use Rattle.pfs_run.proofs.ReportedPhases.{blocks_good}
+use Rattle.pfs_seats.proofs.ReportedPhases.{tables_good}
 use Rattle.pfs_run.proofs.RunnerState.{standing_of, store_of}
 use Rattle.pfs_run.proofs.runner.Runner.end_phase.Goals as goal
 

@@ -1,6 +1,6 @@
 use Rattle.std.proofs.Common.{refl}
 use Rattle.pfs_runs.specs.ScriptLines.{change_in}
-use Rattle.pfs_run.specs.RunPositions.{depth_of}
+use Rattle.pfs_seats.specs.Seats.{depth_of}
 use Rattle.pfs_run.proofs.RunStart.{begun}
 use Rattle.pfs_run.proofs.runner.Runner.open.Goals as goal
 

@@ -13,11 +13,12 @@ use Rattle.pfs_play.specs.Errands.{LabelsName, StagesLie, actions_on, cost_on}
 use Rattle.pfs_runs.specs.ScriptLines.{change_in, changes_in}
 use Rattle.pfs_script.specs.Marks.{written_out}
 use Rattle.pfs_script.specs.declared.blocks.BlockLine.{BlockLine}
+use Rattle.pfs_seats.proofs.BlockPlaces.{is_here}
+use Rattle.pfs_seats.proofs.BlockStarts.{named_at}
+use Rattle.pfs_seats.proofs.ReadySessions.{ready_same}
 use Rattle.pfs_session.specs.SessionStates.{State, Book}
-use Rattle.pfs_run.proofs.BlockStarts.{ready_at, named_at, needs_at, digests_at, statements_at, waits_at}
+use Rattle.pfs_run.proofs.BlockStarts.{ready_at, needs_at, digests_at, statements_at, waits_at}
 use Rattle.pfs_run.proofs.RunKnowledge.{next_along}
-use Rattle.pfs_run.proofs.BlockPlaces.{is_here}
-use Rattle.pfs_run.proofs.ReadySessions.{ready_same}
 use Rattle.pfs_run.proofs.RunSteps.{from_none, in_run, is_done}
 use Rattle.pfs_run.proofs.RunnerState.{standing_of, store_of}
 use Rattle.pfs_run.proofs.runner.Runner.play.Goals as goal
@@ -67,7 +68,7 @@ play_block-requires-clause-named g c =
     let is = ready_at c.args.setting.now c.args.phases.now h.0 h.1 c.args.block.now h.2 h.3 (standing_of g.N.Named.setting g.N.Named.change c.args.self.now.actor.rows c.args.self.now.actor.admin c.args.self.now.progress) h.5 here c.in_ok-session.session c.in_ok-session.ensures.session in
     subst (λ (change : Label → Change). LabelsName change c.reserve.new.self.state.number c.reserve.new.self.state.actions (changes_in c.args.block.now)) (sym c.requires.change)
     (subst (λ (s : State). LabelsName (change_in c.args.phases.now) s.number s.actions (changes_in c.args.block.now)) (sym c.reserve.ensures.state)
-    (named_at c.args.setting.now c.args.phases.now h.0 h.1 c.args.block.now h.2 h.3 (standing_of g.N.Named.setting g.N.Named.change c.args.self.now.actor.rows c.args.self.now.actor.admin c.args.self.now.progress) h.5 here c.in_ok-session.session is))
+    (named_at c.args.setting.now c.args.phases.now h.0 h.1 c.args.block.now h.2 h.3 _ (h.5.earlier ++ h.5.current) c.in_ok-session.session here is h.5.course))
 
 pub play_block-requires-clause-may : goal.play_block-requires-clause-may
 play_block-requires-clause-may g c =
@@ -95,13 +96,13 @@ play_block-requires-clause-ready g c =
     let h = c.requires.here in
     let here = is_here c.playable.ensures c.few.ensures c.named.ensures c.actions.ensures c.requires.script.0 c.args.setting.now c.args.phases.now h.0 h.1 c.args.block.now h.2 h.3 c.requires.script.1 h.4 in
     let is = ready_at c.args.setting.now c.args.phases.now h.0 h.1 c.args.block.now h.2 h.3 (standing_of g.N.Named.setting g.N.Named.change c.args.self.now.actor.rows c.args.self.now.actor.admin c.args.self.now.progress) h.5 here c.in_ok-session.session c.in_ok-session.ensures.session in
-    let drawn = ap (λ (s : State). s.drawn) c.reserve.ensures.state in
-    let actions = ap (λ (s : State). s.actions) c.reserve.ensures.state in
+    let empty : c.reserve.new.self.journal.entries ≡ c.in_ok-session.session.journal.entries = ap (λ (j : Journal). j.entries) c.in_ok-reserve.ensures.ok in
+    let begun = ready_same c.args.setting.now c.args.phases.now _ (h.5.earlier ++ h.5.current) c.args.block.now c.in_ok-session.session c.reserve.new.self c.reserve.ensures.state empty is in
     let cost = c.in_ok-cost.ensures.cost in
     let said = ap (λ (l : List BlockLine). cost_on (written_out l)) c.as_slice.ensures in
     let grown = ap (λ (j : Journal). j.room) c.in_ok-reserve.ensures.ok in
     let room : cost_on (written_out c.args.block.now.lines) + 648 ≤ c.reserve.new.self.journal.room = omega (arith, cost, said, grown) in
-    needs_at c.args.setting.now c.args.phases.now h.0 h.1 c.args.block.now h.2 h.3 (standing_of g.N.Named.setting g.N.Named.change c.args.self.now.actor.rows c.args.self.now.actor.admin c.args.self.now.progress) h.5 here c.reserve.new.self (omega (arith, drawn, is.drawn)) (omega (arith, actions, is.actions)) room
+    needs_at c.args.setting.now c.args.phases.now h.0 h.1 c.args.block.now h.2 h.3 (standing_of g.N.Named.setting g.N.Named.change c.args.self.now.actor.rows c.args.self.now.actor.admin c.args.self.now.progress) h.5 here c.reserve.new.self begun room
 
 pub keep_seat-requires-clause-low : goal.keep_seat-requires-clause-low
 keep_seat-requires-clause-low g c =

@@ -1,7 +1,7 @@
 use Rattle.std.proofs.Common.{ap, arith, length}
-use Rattle.pfs_run.proofs.SessionLengths.{lines_more, lines_same, lines_other}
-use Rattle.pfs_run.proofs.seats.lines_in.Goals as goal
-use Rattle.pfs_run.proofs.seats.lines_in.Goals.{then-block-number, else-block-number}
+use Rattle.pfs_seats.proofs.SessionLengths.{lines_more, lines_same, lines_other}
+use Rattle.pfs_seats.proofs.seats.lines_in.Goals as goal
+use Rattle.pfs_seats.proofs.seats.lines_in.Goals.{then-block-number, else-block-number}
 
 pub overflow_add-lines : goal.overflow_add-lines
 overflow_add-lines c =

@@ -3,7 +3,7 @@
 ghost use Rattle.std.specs.Prelude.{◌≡◌, ◌<◌, ◌≤◌, ◌-◌, ◌^◌, ◌==◌, filter, IfOk, OnOk, None, Some, length, replicate, slice_set};
 ghost use Rattle.pfs_law_script.specs.PlayableBlocks.{lines_among};
 ghost use Rattle.pfs_script.specs.declared.blocks.Block.{Block as Said};
-ghost use Rattle.pfs_run.specs.RunPositions.{GoesOn, depth_of, seat_of};
+ghost use Rattle.pfs_seats.specs.Seats.{GoesOn, depth_of, seat_of};
 
 use crate::NoMemory;
 use pfs_classes::Setting;

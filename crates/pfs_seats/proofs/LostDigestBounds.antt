@@ -1,5 +1,5 @@
 -- Each line of a session ends two events at most, so a block says of few digests that they were lost.
-use Rattle.std.proofs.Common.{ℕ, ◌≡◌, ◌≤◌, ◌*◌, Bool, true, false, cond, List, [], ◌∷◌, length, Option, Some, None, refl, ap, length-append, arith}
+use Rattle.std.proofs.Common.{ℕ, ◌≤◌, ◌*◌, Bool, true, false, cond, List, [], ◌∷◌, length, Option, Some, None, refl, ap, length-append, arith}
 use Rattle.pfs_law_script.specs.Course.{asks_of}
 use Rattle.pfs_play.specs.Errands.{AreFor}
 use Rattle.pfs_law_report.proofs.DigestLosses.{behind_all, ends_at, query_none, step_none, rings_none, sum_of, sum_then, unplaced_few, unplaced_then}
@@ -19,7 +19,7 @@ use Rattle.pfs_session.specs.Ends.{EndsIn, EndsAdded, DigestsIn, no_numbers}
 use Rattle.pfs_session.specs.SessionStates.{State}
 use Rattle.pfs_session.specs.Turns.{Step, StartsEvent, EndsEvent, Spends, SettlesHeld, Connects, Quits, Truncates, Changes, Inquires, Does, Turn, AreTurns, state_after, stage_ends, steps_of, turns_entries}
 use Rattle.pfs_session.specs.declared.events.Numbers.{Numbers}
-use Rattle.pfs_run.proofs.LostEventBounds.{block_short}
+use Rattle.pfs_seats.proofs.LostEventBounds.{block_short}
 
 digest_long : (b : Bool) (s : State) (slot : ℕ) (what : Open) (numbers : Numbers) (calls : List Call) (entries : List Entry) (after : State) → DigestsIn b s slot what numbers calls entries after → length entries ≤ 1
 digest_long false s slot what numbers calls entries after d = let e = ap length d.entries_are in omega (arith, e)

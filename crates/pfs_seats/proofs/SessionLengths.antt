@@ -10,7 +10,7 @@ use Rattle.std.proofs.lemmas.List.Sums.{sum_by-append}
 use Rattle.pfs_law_script.specs.PlayableBlocks.{lines_among}
 use Rattle.pfs_script.specs.declared.blocks.Block.{Block}
 use Rattle.pfs_script.specs.declared.blocks.Phase.{Phase}
-use Rattle.pfs_run.specs.RunPositions.{depth_of}
+use Rattle.pfs_seats.specs.Seats.{depth_of}
 
 abbrev pub lines_own : ℕ → List Block → ℕ
 lines_own number blocks = lines_among (filter (λ (block : Block). block.session == number) blocks)

@@ -1,28 +1,31 @@
 -- What a script's place of a block says of it.
 use Rattle.std.proofs.Common.{ℕ, suc, ◌≡◌, ◌≤◌, ◌<◌, ◌+◌, ◌==◌, Bool, true, cond, List, [], ◌∷◌, ◌++◌, length, slice_index_or, refl, ap, sym, ◌∙◌, subst, length-append, append-nil, eq-eqb, arith}
 use Rattle.std.proofs.Math.Seq.{get_or-append_seam}
-use Rattle.std.specs.List.{All}
+use Rattle.std.specs.List.{All, flat_map}
 use Rattle.std.proofs.lemmas.List.Sums.{sum_by-append, sum_by-cons}
 use Rattle.pfs_classes.specs.declared.setting.Setting.{Setting}
 use Rattle.pfs_law_script.specs.BlocksAhead.{IsReached, block_at, done_before}
-use Rattle.pfs_law_script.specs.Course.{PhasedBlock, numbered, own_blocks, phased}
+use Rattle.pfs_law_script.specs.Course.{PhasedBlock, numbered, own_blocks, own_changes, phased}
 use Rattle.pfs_law_script.proofs.BlocksAhead.{block_here, none_earlier, reached}
-use Rattle.pfs_law_script.proofs.BlockChanges.{own_numbered, own_then}
-use Rattle.pfs_play.specs.Errands.{actions_on}
+use Rattle.pfs_law_script.proofs.BlockChanges.{asked_here, own_numbered, own_then}
+use Rattle.pfs_play.specs.Errands.{LabelsName, actions_on}
 use Rattle.pfs_law_script.specs.PlayableBlocks.{ActionsLaw, FewLaw, IsNamed, IsPlayable, IsPlayableBlock, NamedLaw, PlayableLaw, actions_among, actions_in, blocks_in, lines_among}
+use Rattle.pfs_runs.specs.ScriptLines.{change_in, changes_in}
 use Rattle.pfs_script.specs.Events.{blocks_for}
 use Rattle.pfs_script.specs.Marks.{written_out}
 use Rattle.pfs_script.specs.Scripts.{IsScript}
 use Rattle.pfs_script.specs.declared.blocks.Block.{Block}
 use Rattle.pfs_script.specs.declared.blocks.Phase.{Phase}
-use Rattle.pfs_run.specs.RunPositions.{depth_of}
+use Rattle.pfs_seats.specs.Seats.{depth_of}
 
-pub record IsHere (setting : Setting) (phases before : List Phase) (first : List Block) (block : Block) (others : List Block) (after : List Phase) : Type 0 where
+-- where these blocks are done: those before it in its phase with those of the phases before, or just the latter
+pub record IsHere (setting : Setting) (phases before : List Phase) (first : List Block) (block : Block) (others : List Block) (after : List Phase) (done : List PhasedBlock) : Type 0 where
   pub playable : IsPlayableBlock before after block
   pub reached : IsReached phases before first block others after
-  pub own : own_blocks block.session (done_before before first) ≡ blocks_for block.session before
+  pub own : own_blocks block.session done ≡ blocks_for block.session before
+  pub asked : LabelsName (change_in phases) block.session (length (own_changes block.session done)) (changes_in block)
   pub named : IsNamed setting block
-  pub few : length (done_before before first) < 200000
+  pub few : length done < 200000
   pub rare : actions_on (written_out block.lines) ≤ 16666
   pub depth : lines_among (blocks_for block.session before) + length block.lines ≤ depth_of phases block.session
 
@@ -61,8 +64,9 @@ at_seam P xs x ys all is h =
       within : (n m l : ℕ) → l ≡ n + suc m → n < l
       within n m l e = omega (arith, e)
 
+-- behind the blocks before it in its phase
 pub is_here : PlayableLaw → FewLaw → NamedLaw → ActionsLaw → (text : List ℕ) (setting : Setting) (phases before : List Phase) (first : List Block) (block : Block) (others : List Block) (after : List Phase) → IsScript text setting phases
-    → phases ≡ before ++ record { blocks = first ++ block ∷ others } ∷ after → IsHere setting phases before first block others after
+    → phases ≡ before ++ record { blocks = first ++ block ∷ others } ∷ after → IsHere setting phases before first block others after (done_before before first)
 is_here playable few named actions text setting phases before first block others after script is =
     let phase : Phase = record { blocks = first ++ block ∷ others } in
     let may : IsPlayable before phase after = playable text setting phases before phase after script is in
@@ -87,8 +91,27 @@ is_here playable few named actions text setting phases before first block others
       playable = block_here before phase after first block others refl may;
       reached = at;
       own = own;
+      asked = asked_here phases done rest (block_at before block) all;
       named = at_seam (IsNamed setting) first block others phase.blocks refl (at_seam (λ (phase : Phase). All (IsNamed setting) phase.blocks) before phase after phases is (named text setting phases script));
       few = omega (arith, count, length-append done (block_at before block ∷ rest), numbered_length 1 phases, many);
       rare = omega (arith, truncated, truncates, actions_here before after first others block);
       depth = omega (arith, lines, before_lines);
+    }
+
+-- and behind the phases before alone, as all blocks of a phase are that begins
+pub is_here_at_once : (setting : Setting) (phases before : List Phase) (first : List Block) (block : Block) (others : List Block) (after : List Phase) → IsHere setting phases before first block others after (done_before before first)
+    → IsHere setting phases before first block others after (numbered 1 before)
+is_here_at_once setting phases before first block others after here =
+    let session : ℕ = block.session in
+    let own : own_blocks session (numbered 1 before) ≡ blocks_for session before = own_numbered session 1 before in
+    let made : own_changes session (done_before before first) ≡ own_changes session (numbered 1 before) = ap (flat_map changes_in) (here.own ∙ sym own) in
+    record {
+      playable = here.playable;
+      reached = here.reached;
+      own = own;
+      asked = subst (λ z. LabelsName (change_in phases) session (length z) (changes_in block)) made here.asked;
+      named = here.named;
+      few = omega (arith, here.few, length-append (numbered 1 before) (phased (1 + length before) first));
+      rare = here.rare;
+      depth = here.depth;
     }

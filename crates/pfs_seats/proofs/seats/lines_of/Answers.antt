@@ -1,6 +1,6 @@
 use Rattle.std.proofs.Common.{ap, arith}
-use Rattle.pfs_run.proofs.SessionLengths.{lines_own, depth_more}
-use Rattle.pfs_run.proofs.seats.lines_of.Goals as goal
+use Rattle.pfs_seats.proofs.SessionLengths.{lines_own, depth_more}
+use Rattle.pfs_seats.proofs.seats.lines_of.Goals as goal
 
 pub lines_in-lines-requires : goal.lines_in-lines-requires
 lines_in-lines-requires c =

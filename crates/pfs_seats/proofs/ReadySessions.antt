@@ -7,7 +7,6 @@ use Rattle.pfs_law_plain.specs.Spells.{Spell, parts_in, stints_of}
 use Rattle.pfs_blocks.specs.PlayedBlocks.{MayEnd}
 use Rattle.pfs_blocks.proofs.RepeatKinds.{written_kinds}
 use Rattle.pfs_classes.specs.declared.setting.Setting.{Setting}
-use Rattle.pfs_law_script.specs.BlocksAhead.{done_before}
 use Rattle.pfs_law_script.specs.Course.{AreSpellsOf, PhasedBlock, own_blocks, session_at}
 use Rattle.pfs_event.specs.declared.kind.EventKind.{EventKind}
 use Rattle.pfs_law_plain.specs.LineSteps.{kinds_at}
@@ -24,8 +23,8 @@ use Rattle.pfs_script.specs.declared.blocks.BlockLine.{BlockLine}
 use Rattle.pfs_script.specs.declared.blocks.Connect.{Connect}
 use Rattle.pfs_script.specs.declared.blocks.Phase.{Phase}
 use Rattle.pfs_session.specs.SessionStates.{State, Book, fresh, nothing_held}
-use Rattle.pfs_run.specs.RunPositions.{GoesOn, Sits, depth_of, lines_at}
-use Rattle.pfs_run.proofs.BlockPlaces.{IsHere}
+use Rattle.pfs_seats.specs.Seats.{GoesOn, Sits, depth_of, lines_at}
+use Rattle.pfs_seats.proofs.BlockPlaces.{IsHere}
 
 pub record IsReady (setting : Setting) (phases : List Phase) (done : List PhasedBlock) (spells : List Spell) (block : Block) (book : Book) : Type 0 where
   pub state : book.state ≡ session_at setting (depth_of phases) spells block.session
@@ -94,12 +93,11 @@ none_left : (lines : List BlockLine) → lines ≡ [] → kinds_left lines ≡ [
 unfolding brackets_from
 none_left lines none = ap kinds_left none
 
-ready_by : (setting : Setting) (phases before : List Phase) (first : List Block) (block : Block) (others : List Block) (after : List Phase) (spells : List Spell) (book : Book) (seat : Option Book)
-    → IsHere setting phases before first block others after → AreSpellsOf (done_before before first) spells
-    → Sits setting phases (done_before before first) spells block.session seat → GoesOn seat block.session setting.limits.statement_stack (depth_of phases block.session) book
-    → IsReady setting phases (done_before before first) spells block book
-ready_by setting phases before first block others after spells book None here are sits goes =
-    let done : List PhasedBlock = done_before before first in
+ready_by : (setting : Setting) (phases before : List Phase) (first : List Block) (block : Block) (others : List Block) (after : List Phase) (done : List PhasedBlock) (spells : List Spell) (book : Book) (seat : Option Book)
+    → IsHere setting phases before first block others after done → AreSpellsOf done spells
+    → Sits setting phases done spells block.session seat → GoesOn seat block.session setting.limits.statement_stack (depth_of phases block.session) book
+    → IsReady setting phases done spells block book
+ready_by setting phases before first block others after done spells book None here are sits goes =
     let begun : State = fresh block.session setting.limits.statement_stack (depth_of phases block.session) in
     let is : book.state ≡ begun = ap (λ (b : Book). b.state) goes in
     let lines : lines_at block.session done ≡ [] = ap (λ (bs : List Block). flat_map (λ (block : Block). written_out block.lines) bs) sits in
@@ -120,8 +118,7 @@ ready_by setting phases before first block others after spells book None here ar
       actions = omega (arith, actions);
       depth = deep;
     }
-ready_by setting phases before first block others after spells book (Some was) here are sits goes =
-    let done : List PhasedBlock = done_before before first in
+ready_by setting phases before first block others after done spells book (Some was) here are sits goes =
     let is : book.state ≡ resumed was.state = ap (λ (b : Book). b.state) goes in
     let kinds : kinds_at book.state ≡ kinds_left (lines_at block.session done) = ap (λ (s : State). kinds_at s) is ∙ sits.kinds in
     let deep : book.state.opened.depth ≡ depth_of phases block.session = ap (λ (s : State). s.opened.depth) is ∙ sits.depth in
@@ -142,10 +139,10 @@ ready_by setting phases before first block others after spells book (Some was) h
       depth = deep;
     }
 
-pub ready : (setting : Setting) (phases before : List Phase) (first : List Block) (block : Block) (others : List Block) (after : List Phase) (spells : List Spell) (book : Book) (seat : Option Book)
-    → IsHere setting phases before first block others after → AreSpellsOf (done_before before first) spells
-    → Sits setting phases (done_before before first) spells block.session seat → GoesOn seat block.session setting.limits.statement_stack (depth_of phases block.session) book
-    → IsReady setting phases (done_before before first) spells block book
+pub ready : (setting : Setting) (phases before : List Phase) (first : List Block) (block : Block) (others : List Block) (after : List Phase) (done : List PhasedBlock) (spells : List Spell) (book : Book) (seat : Option Book)
+    → IsHere setting phases before first block others after done → AreSpellsOf done spells
+    → Sits setting phases done spells block.session seat → GoesOn seat block.session setting.limits.statement_stack (depth_of phases block.session) book
+    → IsReady setting phases done spells block book
 ready = ready_by
 
 -- and it goes on so with room in its journal
