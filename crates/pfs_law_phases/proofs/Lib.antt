@@ -1,5 +1,5 @@
-mod PlayedBlocks
-mod BoardActors
+pub mod PlayedBlocks
+pub mod BoardActors
 mod NextPhase
 pub mod PlayedSpells
 mod EndReads

@@ -6,7 +6,7 @@ use Rattle.pfs_law_plain.specs.Spells.{Spell, doings_calls, parts_in}
 use Rattle.pfs_law_plain.specs.ToldAnswers.{Answers}
 use Rattle.pfs_law_script.specs.Course.{asks_of, over_at, session_at}
 use Rattle.pfs_law_session.specs.Deeds.{Part}
-use Rattle.pfs_law_session.specs.JournalLaws.{AreParts, MayDoAll, entries_of}
+use Rattle.pfs_law_session.specs.JournalLaws.{AreParts, MayDoAll, entries_of, state_behind}
 use Rattle.pfs_model.specs.JournalCuts.{joined}
 use Rattle.pfs_play.specs.Errands.{AreFor}
 use Rattle.pfs_runs.specs.SelectAnswers.{Answer, AreAnswers, selections_in}
@@ -43,6 +43,8 @@ played setting change depths spells before block old new given start was now goe
         folded = way.folded;
         asked = subst (AreFor (asks_of block.connect (written_out block.lines))) (sym parts) did.asked;
       };
+      state = did.done.state ∙ (ap (λ (s : State). state_behind s ps) is ∙ ap (λ (z : List Part). state_behind at z) (sym parts));
+      entries = text ∙ ap (λ (z : List Part). joined (entries_of z)) (sym parts);
       reached = subst (now start) (append-nil (doings_calls way.doings)) way.reached;
       told = λ report session entries answers. record {
         phase = refl;
