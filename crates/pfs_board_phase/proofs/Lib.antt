@@ -1,0 +1,10 @@
+mod PhaseSpells
+mod TakenSeats
+mod PhaseSeats
+mod PhaseActors
+mod PhaseLosses
+mod PhaseRoom
+mod PhaseEnds
+mod PhaseSteps
+mod PhaseRuns
+mod ResultLoops

@@ -1,0 +1,111 @@
+-- The end of a phase as the root of a board was told it and read it, and the root behind it.
+use Rattle.std.proofs.Common.{ℕ, ◌≡◌, ◌≤◌, List, ◌∷◌, ◌++◌, length, slice_index, ap, ◌∙◌, subst}
+use Rattle.std.specs.List.{flat_map}
+use Rattle.atomic_table.specs.Seated.{TableId}
+use Rattle.pfs_admin.specs.declared.changes.Change.{Change}
+use Rattle.pfs_board.specs.History.{Each}
+use Rattle.pfs_board.specs.Knowledge.{IsWhole}
+use Rattle.pfs_board.specs.declared.view.Label.{Label}
+use Rattle.pfs_board_admin.specs.LabelWords.{AllKeepWords, version_after}
+use Rattle.pfs_board_root.specs.Roots.{RootView}
+use Rattle.pfs_board_store.specs.RootActors.{AreGathered, Worked, calls_of_all}
+use Rattle.pfs_board_tables.specs.EndTables.{AreListed, HasReadTables}
+use Rattle.pfs_classes.specs.declared.setting.Setting.{Setting}
+use Rattle.pfs_containers.specs.ContainerState.{lost_in}
+use Rattle.pfs_containers.specs.declared.containers.Lost.{Lost}
+use Rattle.pfs_finals.specs.Counters.{counters, lost_row}
+use Rattle.pfs_journal.specs.declared.report.PhaseParts.{PhaseParts}
+use Rattle.pfs_journal.specs.declared.values.TableReport.{TableReport}
+use Rattle.pfs_law_board.specs.EndReadings.{IsRead}
+use Rattle.pfs_law_board.specs.PhaseEnds.{BeganBehind, IsEnded, IsQuiet, PhaseEnd, all_of}
+use Rattle.pfs_law_board.specs.PhaseEnds.{Phase as Ended}
+use Rattle.pfs_law_phases.specs.Ends.{IsEndRead}
+use Rattle.pfs_law_plain.specs.Spells.{Spell}
+use Rattle.pfs_law_report.proofs.NextPhase.{counted_is}
+use Rattle.pfs_law_report.specs.declared.counts.LostEvents.{LostEvents}
+use Rattle.pfs_law_script.specs.Course.{PhasedBlock}
+use Rattle.pfs_levels.specs.CallOrder.{AllCalls}
+use Rattle.pfs_tickets.specs.Knowledge.{IsWhole as HasAllDraws}
+use Rattle.pfs_board_phase.specs.BetweenPhases.{AreLost, IsSettled, counters_of}
+
+-- the phase, as a root that has settled has it
+abbrev pub board_of : List Worked → List Worked → Ended
+board_of actors own = record { actors = actors; own = own }
+
+module _ (setting : Setting) (change : Label → Change) (switches : TableId) where
+  -- the tables as they were read on a board that began so
+  pub record HasReadAt (start : List ℕ) (before : List Worked) (tables : List TableReport) (lost : Lost) (new : RootView) : Type 0 where
+    pub own : List Worked
+    pub reads : Worked
+    pub met : Worked
+    pub read : IsRead setting change switches start before own reads
+    pub listed : AreListed setting tables reads.calls
+    pub lost_are : lost ≡ lost_in read.last.admin.kept.now
+    pub gathered : AreGathered (met ∷ (reads ∷ (own ++ before))) new.seat new.words new.draws
+    pub quiet : AllCalls IsQuiet (calls_of_all (met ∷ (reads ∷ own)))
+    pub keep : AllCalls (AllKeepWords (version_after setting change)) (calls_of_all (met ∷ (reads ∷ (own ++ before))))
+    pub made : new.seat.made ≡ read.first.seat.made
+    pub seen : (at : ℕ) → slice_index read.first.pen.view.seen at ≤ slice_index new.words.seen at
+
+  pub read_at : (start : List ℕ) (before : List Worked) (tables : List TableReport) (lost : Lost) (old new : RootView) → HasReadTables setting change switches before tables lost old new → old.seat.start ≡ start → HasReadAt start before tables lost new
+  read_at start before tables lost old new t e = subst (λ z. HasReadAt z before tables lost new) e (record {
+    own = t.own;
+    reads = t.reads;
+    met = t.met;
+    read = t.read;
+    listed = t.listed;
+    lost_are = t.lost_are;
+    gathered = t.gathered;
+    quiet = t.quiet;
+    keep = t.keep;
+    made = t.made;
+    seen = t.seen;
+  })
+
+  -- the phase ended, and the root was told so
+  pub is_ended : (ended : List Ended) (r : RootView) (s : IsSettled setting change switches ended r) (actors : List Worked) (tables : List TableReport) (lost : Lost) (new : RootView)
+      → HasReadAt r.seat.start (actors ++ (s.own ++ all_of ended)) tables lost new → Each (BeganBehind (length s.first.seat.made) s.first.pen.view.seen) actors
+      → IsEnded setting change switches r.seat.start (all_of ended) (board_of actors s.own)
+  is_ended ended r s actors tables lost new t began = record { first = s.first; last = t.read.first; own = s.quiet; began = began }
+
+  -- what it read is the report's end
+  pub end_read : (start : List ℕ) (before : List Worked) (tables : List TableReport) (lost : Lost) (new : RootView) → HasReadAt start before tables lost new
+      → (done : List PhasedBlock) (spells : List Spell) (events : LostEvents) → AreLost done spells events
+      → (report : PhaseParts) → report.tables ≡ tables → report.lost ≡ flat_map (lost_row setting.classes (counters_of lost events)) counters → IsEndRead setting change switches start before spells report
+  end_read start before tables lost new t done spells events are report same counted = record {
+    own = t.own;
+    reads = t.reads;
+    read = t.read;
+    each_read = t.listed.each_read;
+    calls = t.listed.calls_are;
+    order = t.listed.order;
+    sets = t.listed.sets;
+    tables = same ∙ t.listed.tables_are;
+    lost = counted ∙ ap (λ z. flat_map (lost_row setting.classes z) counters) (counted_is t.read.last.admin.kept.now spells (counters_of lost events) (record {
+      threads = ap (λ (z : Lost). z.threads) t.lost_are;
+      accounts = ap (λ (z : Lost). z.accounts) t.lost_are;
+      users = ap (λ (z : Lost). z.users) t.lost_are;
+      hosts = ap (λ (z : Lost). z.hosts) t.lost_are;
+      digests = are.digests;
+      statements = are.statements;
+      waits = are.waits;
+    }));
+  }
+
+  -- the root has settled again
+  pub settled_next : (start : List ℕ) (ended : List Ended) (board : Ended) (tables : List TableReport) (lost : Lost) (new : RootView) → HasReadAt start (all_of (board ∷ ended)) tables lost new → new.seat.start ≡ start
+      → IsWhole new.seat → HasAllDraws new.draws → IsSettled setting change switches (board ∷ ended) new
+  settled_next start ended board tables lost new t same whole draws =
+      let before : List Worked = all_of (board ∷ ended) in
+      subst (λ z. (first : PhaseEnd setting change switches z before) → new.seat.made ≡ first.seat.made → ((at : ℕ) → slice_index first.pen.view.seen at ≤ slice_index new.words.seen at) → IsSettled setting change switches (board ∷ ended) new) same
+      (λ first made seen. record {
+        own = t.met ∷ (t.reads ∷ t.own);
+        gathered = t.gathered;
+        quiet = t.quiet;
+        keeps = t.keep;
+        first = first;
+        made = made;
+        seen = λ at low. seen at;
+        whole = whole;
+        all_draws = draws;
+      }) t.read.first t.made t.seen

@@ -1,0 +1,4 @@
+pub mod BetweenPhases
+pub mod PhaseResults
+pub mod TakenSeats
+pub mod PhaseLaws

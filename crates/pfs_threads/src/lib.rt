@@ -1,0 +1,10 @@
+//! A run of a script, the sessions of each phase at once.
+#![tactic(auto)]
+
+mod run;
+
+pub use crate::run::run_threads;
+pub use pfs_board_session::{Gate, OpenGate};
+
+/// Memory ran out.
+pub type NoMemory = std::alloc::AllocError;

@@ -1,0 +1,121 @@
+//! A run of a whole script, phase after phase.
+
+ghost use Rattle.std.specs.Prelude.{◌≡◌, ◌++◌, ◌∷◌, [], ℕ, List, None, IfOk, replicate};
+ghost use Rattle.pfs_board_opening.specs.Opened.{AreFresh};
+ghost use Rattle.pfs_board_phase.specs.BetweenPhases.{IsBetweenPhases};
+ghost use Rattle.pfs_law_report.specs.declared.counts.LostEvents.{LostEvents as LostSoFar};
+ghost use Rattle.pfs_runs.specs.Runs.{IsRun};
+ghost use Rattle.pfs_runs.specs.ScriptLines.{change_in};
+ghost use Rattle.pfs_script.specs.Scripts.{IsScript};
+
+use crate::NoMemory;
+use pfs_board_admin::Shared;
+use pfs_board_opening::{Picked, Run, RunWords, Tables, open_tables, open_words};
+use pfs_board_phase::{BoardRun, run_phase};
+use pfs_board_root::Root;
+use pfs_board_session::Gate;
+use pfs_board_store::Seats;
+use pfs_classes::Setting;
+use pfs_journal::{PhaseList, Report, ReportParts};
+use pfs_law_report::LostEvents;
+use pfs_script::Phase;
+use pfs_seats::empty_seats;
+use std::alloc::Global;
+use std::marker::Brand;
+use std::sync::Wait;
+use std::thread::Threads;
+
+/// The number of the report's format: that of a whole report.
+const FORMAT: u64 = 1;
+
+/// Runs a script and reports it. The sessions of each phase go on at once, each in a thread of its own where one can be
+/// started, over one slot board; before each line its session asks the gate. Out of memory the run is given up.
+pub fn run_threads<R: Threads + Wait + Sync, G: Gate>(
+    rt: &R,
+    gate: &G,
+    alloc: Global,
+    setting: &Setting,
+    phases: &[Phase],
+) -> Result<Report, NoMemory>
+    requires { (text : List ℕ) × IsScript text setting.now phases.now }
+    ensures { IfOk result (λ report. IsRun setting.now phases.now report) }
+{
+    let words = open_words(alloc, setting)?;
+    run_picked::<R, G, Brand>(rt, gate, alloc, setting, phases, words)
+}
+
+// The same of a run whose setting, changes and setup words are picked.
+fn run_picked<R: Threads + Wait + Sync, G: Gate, P: Picked>(
+    rt: &R,
+    gate: &G,
+    alloc: Global,
+    setting: &Setting,
+    phases: &[Phase],
+    words: RunWords,
+) -> Result<Report, NoMemory>
+    requires setting { P.setting ≡ setting.now }
+    requires change { P.change ≡ change_in phases.now }
+    requires run { words.switches.id ≡ P.switches }
+    requires fresh { AreFresh setting.now words.switches words.seat words.writer }
+    requires script { (text : List ℕ) × IsScript text setting.now phases.now }
+    ensures { IfOk result (λ report. IsRun setting.now phases.now report) }
+{
+    run_named::<R, G, Run<P>>(rt, gate, alloc, setting, phases, words)
+}
+
+// The same of a run that contracts name, over tables of its own.
+fn run_named<R: Threads + Wait + Sync, G: Gate, N: Shared + Send + Sync>(
+    rt: &R,
+    gate: &G,
+    alloc: Global,
+    setting: &Setting,
+    phases: &[Phase],
+    words: RunWords,
+) -> Result<Report, NoMemory>
+    requires setting { N.setting ≡ setting.now }
+    requires change { N.change ≡ change_in phases.now }
+    requires run { words.switches.id ≡ N.switches }
+    requires fresh { AreFresh setting.now words.switches words.seat words.writer }
+    requires script { (text : List ℕ) × IsScript text setting.now phases.now }
+    ensures { IfOk result (λ report. IsRun setting.now phases.now report) }
+{
+    pfs_law_phases::laws::begun();
+    let (tables, seats): (Tables<N>, Seats) = open_tables(alloc, setting, words)?;
+    let root = tables.begin(seats);
+    run_phases(rt, gate, alloc, setting, phases, root)
+}
+
+// The phases one after another, over a root that has done nothing yet.
+fn run_phases<'b, R: Threads + Wait + Sync, G: Gate, N: Shared + Send + Sync>(
+    rt: &R,
+    gate: &G,
+    alloc: Global,
+    setting: &Setting,
+    phases: &[Phase],
+    root: Root<'b, N>,
+) -> Result<Report, NoMemory>
+    requires setting { N.setting ≡ setting.now }
+    requires change { N.change ≡ change_in phases.now }
+    requires script { (text : List ℕ) × IsScript text setting.now phases.now }
+    requires begun { IsBetweenPhases setting.now phases.now N.switches [] phases.now root (replicate 64 None)
+        (record { digests = 0; statements = 0; waits = 0 }) [] }
+    ensures { IfOk result (λ report. IsRun setting.now phases.now report) }
+{
+    pfs_law_phases::laws::run();
+    let mut run = BoardRun {
+        root,
+        seats: empty_seats(alloc)?,
+        lost: LostEvents::NONE,
+        phases: Vec::new(alloc),
+    };
+    for phase in phases {
+        match run_phase(rt, gate, alloc, setting, phases, phase, run) {
+            Ok(next) => run = next,
+            Err(fault) => return Err(fault),
+        }
+    }
+    Ok(Report::new(ReportParts {
+        format: FORMAT,
+        phases: PhaseList::new(run.phases),
+    }))
+}
