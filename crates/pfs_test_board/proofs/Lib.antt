@@ -1,0 +1,3 @@
+mod TestSteps
+mod TestRoots
+mod QuietBlock

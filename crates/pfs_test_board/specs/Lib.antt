@@ -1,0 +1,2 @@
+pub mod TestActors
+pub mod TestBlocks
