@@ -2,6 +2,7 @@ mod PhaseSpells
 mod TakenSeats
 mod PhaseSeats
 mod PhaseActors
+pub mod SeatNumbers
 mod PhaseLosses
 mod PhaseRoom
 mod PhaseEnds

@@ -1,5 +1,5 @@
 -- The end of a phase as the root of a board was told it and read it, and the root behind it.
-use Rattle.std.proofs.Common.{ℕ, ◌≡◌, ◌≤◌, List, ◌∷◌, ◌++◌, length, slice_index, ap, ◌∙◌, subst}
+use Rattle.std.proofs.Common.{ℕ, ◌≡◌, ◌≤◌, List, [], ◌∷◌, ◌++◌, length, slice_index, ap, ◌∙◌, subst}
 use Rattle.std.specs.List.{flat_map}
 use Rattle.atomic_table.specs.Seated.{TableId}
 use Rattle.pfs_admin.specs.declared.changes.Change.{Change}
@@ -17,7 +17,7 @@ use Rattle.pfs_finals.specs.Counters.{counters, lost_row}
 use Rattle.pfs_journal.specs.declared.report.PhaseParts.{PhaseParts}
 use Rattle.pfs_journal.specs.declared.values.TableReport.{TableReport}
 use Rattle.pfs_law_board.specs.EndReadings.{IsRead}
-use Rattle.pfs_law_board.specs.PhaseEnds.{BeganBehind, IsEnded, IsQuiet, PhaseEnd, all_of}
+use Rattle.pfs_law_board.specs.PhaseEnds.{BeganBehind, IsEnded, PhaseEnd, all_of}
 use Rattle.pfs_law_board.specs.PhaseEnds.{Phase as Ended}
 use Rattle.pfs_law_phases.specs.Ends.{IsEndRead}
 use Rattle.pfs_law_plain.specs.Spells.{Spell}
@@ -27,6 +27,13 @@ use Rattle.pfs_law_script.specs.Course.{PhasedBlock}
 use Rattle.pfs_levels.specs.CallOrder.{AllCalls}
 use Rattle.pfs_tickets.specs.Knowledge.{IsWhole as HasAllDraws}
 use Rattle.pfs_board_phase.specs.BetweenPhases.{AreLost, IsSettled, counters_of}
+use Rattle.pfs_board_phase.specs.SeatNumbers.{IsOwn}
+use Rattle.pfs_board_phase.proofs.SeatNumbers.{all_own, all_quiet}
+
+-- with the root's number, which is 0
+same_number : (number : ℕ) (ws : List Worked) → Each (λ (w : Worked). w.start.board.number ≡ number) ws → number ≡ 0 → Each (λ (w : Worked). w.start.board.number ≡ 0) ws
+same_number number [] each zero = tt
+same_number number (w ∷ ws) each zero = (each.0 ∙ zero, same_number number ws each.1 zero)
 
 -- the phase, as a root that has settled has it
 abbrev pub board_of : List Worked → List Worked → Ended
@@ -42,13 +49,14 @@ module _ (setting : Setting) (change : Label → Change) (switches : TableId) wh
     pub listed : AreListed setting tables reads.calls
     pub lost_are : lost ≡ lost_in read.last.admin.kept.now
     pub gathered : AreGathered (met ∷ (reads ∷ (own ++ before))) new.seat new.words new.draws
-    pub quiet : AllCalls IsQuiet (calls_of_all (met ∷ (reads ∷ own)))
+    pub alone : Each IsOwn (met ∷ (reads ∷ own))
     pub keep : AllCalls (AllKeepWords (version_after setting change)) (calls_of_all (met ∷ (reads ∷ (own ++ before))))
     pub made : new.seat.made ≡ read.first.seat.made
     pub seen : (at : ℕ) → slice_index read.first.pen.view.seen at ≤ slice_index new.words.seen at
 
-  pub read_at : (start : List ℕ) (before : List Worked) (tables : List TableReport) (lost : Lost) (old new : RootView) → HasReadTables setting change switches before tables lost old new → old.seat.start ≡ start → HasReadAt start before tables lost new
-  read_at start before tables lost old new t e = subst (λ z. HasReadAt z before tables lost new) e (record {
+  pub read_at : (start : List ℕ) (before : List Worked) (tables : List TableReport) (lost : Lost) (old new : RootView) → HasReadTables setting change switches before tables lost old new → old.seat.start ≡ start → old.seat.number ≡ 0
+      → HasReadAt start before tables lost new
+  read_at start before tables lost old new t e zero = subst (λ z. HasReadAt z before tables lost new) e (record {
     own = t.own;
     reads = t.reads;
     met = t.met;
@@ -56,7 +64,7 @@ module _ (setting : Setting) (change : Label → Change) (switches : TableId) wh
     listed = t.listed;
     lost_are = t.lost_are;
     gathered = t.gathered;
-    quiet = t.quiet;
+    alone = all_own (t.met ∷ (t.reads ∷ t.own)) (same_number old.seat.number (t.met ∷ (t.reads ∷ t.own)) t.numbers zero) t.quiet;
     keep = t.keep;
     made = t.made;
     seen = t.seen;
@@ -66,7 +74,7 @@ module _ (setting : Setting) (change : Label → Change) (switches : TableId) wh
   pub is_ended : (ended : List Ended) (r : RootView) (s : IsSettled setting change switches ended r) (actors : List Worked) (tables : List TableReport) (lost : Lost) (new : RootView)
       → HasReadAt r.seat.start (actors ++ (s.own ++ all_of ended)) tables lost new → Each (BeganBehind (length s.first.seat.made) s.first.pen.view.seen) actors
       → IsEnded setting change switches r.seat.start (all_of ended) (board_of actors s.own)
-  is_ended ended r s actors tables lost new t began = record { first = s.first; last = t.read.first; own = s.quiet; began = began }
+  is_ended ended r s actors tables lost new t began = record { first = s.first; last = t.read.first; own = all_quiet s.own s.alone; began = began }
 
   -- what it read is the report's end
   pub end_read : (start : List ℕ) (before : List Worked) (tables : List TableReport) (lost : Lost) (new : RootView) → HasReadAt start before tables lost new
@@ -93,15 +101,16 @@ module _ (setting : Setting) (change : Label → Change) (switches : TableId) wh
   }
 
   -- the root has settled again
-  pub settled_next : (start : List ℕ) (ended : List Ended) (board : Ended) (tables : List TableReport) (lost : Lost) (new : RootView) → HasReadAt start (all_of (board ∷ ended)) tables lost new → new.seat.start ≡ start
+  pub settled_next : (start : List ℕ) (ended : List Ended) (board : Ended) (tables : List TableReport) (lost : Lost) (new : RootView) → HasReadAt start (all_of (board ∷ ended)) tables lost new → new.seat.start ≡ start → new.seat.number ≡ 0
       → IsWhole new.seat → HasAllDraws new.draws → IsSettled setting change switches (board ∷ ended) new
-  settled_next start ended board tables lost new t same whole draws =
+  settled_next start ended board tables lost new t same zero whole draws =
       let before : List Worked = all_of (board ∷ ended) in
       subst (λ z. (first : PhaseEnd setting change switches z before) → new.seat.made ≡ first.seat.made → ((at : ℕ) → slice_index first.pen.view.seen at ≤ slice_index new.words.seen at) → IsSettled setting change switches (board ∷ ended) new) same
       (λ first made seen. record {
         own = t.met ∷ (t.reads ∷ t.own);
         gathered = t.gathered;
-        quiet = t.quiet;
+        number = zero;
+        alone = t.alone;
         keeps = t.keep;
         first = first;
         made = made;

@@ -23,7 +23,7 @@ use Rattle.pfs_seats.proofs.ReadySessions.{IsReady}
 use Rattle.pfs_seats.specs.Seats.{depth_of}
 use Rattle.pfs_session.specs.SessionStates.{Book}
 use Rattle.pfs_board_phase.specs.BetweenPhases.{IsSpared}
-use Rattle.pfs_board_phase.proofs.PhaseSeats.{AreOthers, apart, sessions_of}
+use Rattle.pfs_board_phase.proofs.PhaseSeats.{AreOthers, apart, phased_long, sessions_of}
 use Rattle.pfs_board_phase.proofs.PhaseSpells.{AreReady}
 
 -- a phase has no more blocks than a script has sessions
@@ -52,10 +52,6 @@ few_blocks blocks distinct low =
       long (b ∷ bs) = ap suc (long bs)
 
 -- and a script no more than 200,000
-phased_long : (number : ℕ) (blocks : List Block) → length (phased number blocks) ≡ length blocks
-phased_long number [] = refl
-phased_long number (b ∷ bs) = ap suc (phased_long number bs)
-
 numbered_long : (number : ℕ) (phases : List Phase) → length (numbered number phases) ≡ blocks_in phases
 numbered_long number [] = refl
 numbered_long number (p ∷ ps) =

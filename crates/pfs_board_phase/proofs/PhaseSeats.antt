@@ -53,7 +53,7 @@ state_then : (session : ℕ) (s : State) (xs ys : List Stint) → state_by sessi
 state_then session s [] ys = refl
 state_then session s (x ∷ xs) ys = state_then session (cond (x.session == session) (resumed (state_behind s x.parts)) s) xs ys
 
-phased_long : (number : ℕ) (blocks : List Block) → length (phased number blocks) ≡ length blocks
+pub phased_long : (number : ℕ) (blocks : List Block) → length (phased number blocks) ≡ length blocks
 phased_long number [] = refl
 phased_long number (b ∷ bs) = ap suc (phased_long number bs)
 

@@ -141,6 +141,10 @@ module _ (setting : Setting) (phases before : List Phase) (phase : Phase) (after
   blocks_long [] = refl
   blocks_long (one ∷ ones) = ap suc (blocks_long ones)
 
+  pub spells_long : (ones : List One) → length (spells_in ones) ≡ length ones
+  spells_long [] = refl
+  spells_long (one ∷ ones) = ap suc (spells_long ones)
+
   pub rans_long : (ones : List One) → length (map ran_in ones) ≡ length ones
   rans_long [] = refl
   rans_long (one ∷ ones) = ap suc (rans_long ones)

@@ -1,5 +1,5 @@
 -- A run over a board from one phase to the next, step by step.
-use Rattle.std.proofs.Common.{ℕ, ◌≡◌, ◌≤◌, ◌<◌, ◌+◌, ◌*◌, List, [], ◌∷◌, ◌++◌, Option, All, length, map, refl, ap, sym, ◌∙◌, subst, append_assoc, arith}
+use Rattle.std.proofs.Common.{ℕ, ◌≡◌, ◌≤◌, ◌<◌, ◌+◌, ◌*◌, List, [], ◌∷◌, ◌++◌, Option, All, length, length-append, map, refl, ap, sym, ◌∙◌, subst, append_assoc, arith}
 use Rattle.std.specs.List.{AllByRecursion, flat_map}
 use Rattle.std.proofs.lemmas.List.Elements.{All-from_recursion, All-head, All-push, All-tail}
 use Rattle.atomic_table.specs.Seated.{TableId}
@@ -60,6 +60,7 @@ use Rattle.pfs_tickets.specs.declared.view.View.{View as TicketView}
 use Rattle.pfs_board_phase.specs.BetweenPhases.{AreLost, IsBetweenPhases, IsSettled, counters_of}
 use Rattle.pfs_board_phase.specs.PhaseLaws.{BeginsLaw, IsReportOf, PlayedLaw}
 use Rattle.pfs_board_phase.specs.PhaseResults.{AreCounted, AreFew, AreKept, AreReported, HasSeat}
+use Rattle.pfs_board_phase.specs.SeatNumbers.{AreNumbered}
 use Rattle.pfs_board_phase.specs.TakenSeats.{AreTaken, emptied}
 use Rattle.pfs_board_phase.proofs.TakenSeats.{emptied_long}
 use Rattle.pfs_board_phase.proofs.PhaseActors.{began, kept_words, opened, shares}
@@ -67,7 +68,8 @@ use Rattle.pfs_board_phase.proofs.PhaseEnds.{HasReadAt, board_of, end_read, is_e
 use Rattle.pfs_board_phase.proofs.PhaseLosses.{few_lost, lost_behind}
 use Rattle.pfs_board_phase.proofs.PhaseRoom.{all_low_here, all_may, few_blocks, few_done, further_long, room, spared_next, used}
 use Rattle.pfs_board_phase.proofs.PhaseSeats.{all_sit, are_ready, seats_behind, sessions_of}
-use Rattle.pfs_board_phase.proofs.PhaseSpells.{AreReady, HavePlayed, Played, are_of, are_played, are_told, blocks_long, have_played, ran_in, rans_long, spells_in, theirs}
+use Rattle.pfs_board_phase.proofs.SeatNumbers.{actors_long, all_quiet, next_numbered, own_numbered}
+use Rattle.pfs_board_phase.proofs.PhaseSpells.{AreReady, HavePlayed, Played, are_of, are_played, are_told, blocks_long, have_played, ran_in, rans_long, spells_in, spells_long, theirs}
 
 -- of two lists of actors, the first
 all_front : (P : List Call → Type 0) (xs ys : List (List Call)) → AllCalls P (xs ++ ys) → AllCalls P xs
@@ -80,15 +82,6 @@ some_last [] = (0, tt)
 some_last (s ∷ ss) =
     let rest = some_last ss in
     (s.phase + rest.0, (omega arith, each_map (λ spell. spell.phase ≤ rest.0) (λ spell. spell.phase ≤ s.phase + rest.0) (λ spell low. omega (arith, low)) ss rest.1))
-
--- in a run that fixes this setting and changes what these phases say
-pub may_in : (setting fixed : Setting) (change other : Label → Change) (blocks : List Block) (books : List Book) → fixed ≡ setting → change ≡ other → AllMayRun setting other blocks books → AllMayRun fixed change blocks books
-may_in setting fixed change other blocks books same too may = subst (λ (f : Setting). AllMayRun f change blocks books) (sym same) (subst (λ (c : Label → Change). AllMayRun setting c blocks books) (sym too) may)
-
-pub run_in : (setting fixed : Setting) (change other : Label → Change) (blocks : List Block) (books : List Book) (rans : List Ran) (old new : RootView) → fixed ≡ setting → change ≡ other
-    → HasRunPhase setting fixed change blocks books rans old new → HasRunPhase setting setting other blocks books rans old new
-run_in setting fixed change other blocks books rans old new same too run =
-    subst (λ (f : Setting). HasRunPhase setting f other blocks books rans old new) same (subst (λ (c : Label → Change). HasRunPhase setting fixed c blocks books rans old new) too run)
 
 -- where a phase begins
 pub record Begins (setting : Setting) (phases before : List Phase) (phase : Phase) (after : List Phase) (switches : TableId) (root : RootView) (seats : List (Option Book)) (lost : LostEvents) (reports : List PhaseParts) : Type 0 where
@@ -168,6 +161,9 @@ module _ (setting : Setting) (phases before : List Phase) (phase : Phase) (after
     started : mid.seat.start ≡ root.seat.start
     started = ran.taken.start ∙ ran.split.start
 
+    mid_number : mid.seat.number ≡ 0
+    mid_number = ran.taken.number ∙ (ran.split.number ∙ s.number)
+
     pub mid_gathered : AreGathered actors mid.seat mid.words mid.draws
     mid_gathered = ran.taken.gathered (s.own ++ all_of run.ended) (ran.split.gathered (s.own ++ all_of run.ended) s.gathered)
 
@@ -221,7 +217,7 @@ module _ (setting : Setting) (phases before : List Phase) (phase : Phase) (after
       start = root.seat.start
 
       at : HasReadAt setting change switches start actors tables containers new
-      at = read_at setting change switches start actors tables containers mid new o.read started
+      at = read_at setting change switches start actors tables containers mid new o.read started mid_number
 
       long : length (numbered 1 all) ≡ length done + length did.ones
       long = further_long before phase ∙ ap (λ n. length done + n) (ap length did.blocks_are ∙ blocks_long setting phases before phase after spells did.ones)
@@ -249,10 +245,20 @@ module _ (setting : Setting) (phases before : List Phase) (phase : Phase) (after
       but_now : AreAllBut (actors_of (spells ++ now)) (calls_of_all actors)
       but_now =
           let rest : List Worked = s.own ++ all_of run.ended in
-          let quiet : AreAllBut (actors_of spells) (calls_of_all s.own ++ calls_of_all (all_of run.ended)) = but_quiet (calls_of_all s.own) (actors_of spells) (calls_of_all (all_of run.ended)) s.quiet b.between.behind.theirs in
+          let quiet : AreAllBut (actors_of spells) (calls_of_all s.own ++ calls_of_all (all_of run.ended)) = but_quiet (calls_of_all s.own) (actors_of spells) (calls_of_all (all_of run.ended)) (all_quiet s.own s.alone) b.between.behind.theirs in
           let behind : AreAllBut (actors_of spells) (calls_of_all rest) = subst (AreAllBut (actors_of spells)) (sym (calls_then s.own (all_of run.ended))) quiet in
           subst (λ z. AreAllBut z (calls_of_all actors)) (sym (actors_then spells now))
           (subst (AreAllBut (actors_of now ++ actors_of spells)) (sym (calls_then ws rest ∙ ap (λ z. z ++ calls_of_all rest) theirs_now)) (but_same (actors_of now) (actors_of spells) (calls_of_all rest) behind))
+
+      now_long : length now ≡ length phase.blocks
+      now_long = spells_long setting phases before phase after spells did.ones ∙ sym (ap length did.blocks_are ∙ blocks_long setting phases before phase after spells did.ones)
+
+      numbers_now : AreNumbered (actors_of (spells ++ now)) (all_of (board ∷ run.ended))
+      numbers_now =
+          let opens = opened setting setting change (opening_at flags root share_of_each share_of_each) 1 phase.blocks books rans ran.ws ran.each in
+          let own : AreNumbered (actors_of spells) (s.own ++ all_of run.ended) = own_numbered (actors_of spells) s.own (all_of run.ended) s.alone b.between.by_number.theirs in
+          let all : AreNumbered (calls_of_all ws ++ actors_of spells) actors = next_numbered flags root (actors_of spells) ran.ws (s.own ++ all_of run.ended) (actors_long spells ∙ sym b.between.by_number.seats) opens.0 own in
+          subst (λ z. AreNumbered z actors) (sym (actors_then spells now ∙ ap (λ z. z ++ actors_of spells) (sym theirs_now))) all
 
       course_now : IsWalked one_more reached setting phases (depth_of phases) before phase after b.parted b.playable (spells ++ now)
       course_now =
@@ -304,7 +310,8 @@ module _ (setting : Setting) (phases before : List Phase) (phase : Phase) (after
             behind = subst (λ z. IsBehind setting phases (depth_of phases) switches z all after (next_of run now board report)) (sym same) (next_behind next end law);
             told = ap (λ z. z ++ report ∷ []) b.between.told ∙ sym is;
             good = subst (All IsPhase) (sym is) (All-push IsPhase reports report b.between.good good);
-            settled = settled_next setting change switches start run.ended board tables containers new at same o.read.stayed.whole.0 o.read.stayed.whole.1;
+            settled = settled_next setting change switches start run.ended board tables containers new at same (o.read.stayed.number ∙ mid_number) o.read.stayed.whole.0 o.read.stayed.whole.1;
+            by_number = record { seats = omega (arith, o.read.stayed.seats, ran.taken.seats, ran.split.seats, b.between.by_number.seats, length-append spells now, now_long); theirs = numbers_now };
             spared = spared_next done (numbered 1 all) phase.blocks root mid new b.between.spared further (used setting phases before phase after spells b.here [] phase.blocks refl) ran.spare ran.tickets o.read.stayed.allowance (ap (λ (z : TicketView). z.draws) o.read.stayed.draws);
             wide = o.kept.wide ∙ (ap length o.empty ∙ (emptied_long seats phase.blocks ∙ b.between.wide));
             seated = seats_behind setting phases before phase after spells did.ones seats mid_seats new_seats did.blocks_are (subst (λ (z : List Block). AreDistinct (sessions_of z)) did.blocks_are b.playable.sessions) (o.empty ∙ ap (emptied seats) did.blocks_are)

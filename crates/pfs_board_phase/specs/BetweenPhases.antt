@@ -3,6 +3,7 @@ use Rattle.std.specs.Prelude.{ℕ, ◌≡◌, ◌<◌, ◌≤◌, ◌+◌, ◌*�
 use Rattle.std.specs.List.{All}
 use Rattle.atomic_table.specs.Seated.{TableId}
 use Rattle.pfs_admin.specs.declared.changes.Change.{Change}
+use Rattle.pfs_board.specs.History.{Each}
 use Rattle.pfs_board.specs.Knowledge.{IsWhole}
 use Rattle.pfs_board.specs.declared.view.Label.{Label}
 use Rattle.pfs_board_admin.specs.LabelWords.{AllKeepWords, version_after}
@@ -14,7 +15,7 @@ use Rattle.pfs_containers.specs.declared.containers.Lost.{Lost}
 use Rattle.pfs_finals.specs.declared.counters.LostCounters.{LostCounters}
 use Rattle.pfs_journal.specs.Reports.{IsPhase}
 use Rattle.pfs_journal.specs.declared.report.PhaseParts.{PhaseParts}
-use Rattle.pfs_law_board.specs.PhaseEnds.{IsQuiet, PhaseEnd, all_of}
+use Rattle.pfs_law_board.specs.PhaseEnds.{PhaseEnd, all_of}
 use Rattle.pfs_law_board.specs.PhaseEnds.{Phase as Ended}
 use Rattle.pfs_law_phases.specs.Behind.{IsBehind, Standing}
 use Rattle.pfs_law_plain.specs.RunRules.{entries_of}
@@ -30,15 +31,17 @@ use Rattle.pfs_script.specs.declared.blocks.Phase.{Phase}
 use Rattle.pfs_seats.specs.Seats.{Sits, depth_of, seat_of}
 use Rattle.pfs_session.specs.SessionStates.{Book}
 use Rattle.pfs_tickets.specs.Knowledge.{IsWhole as HasAllDraws}
+use Rattle.pfs_board_phase.specs.SeatNumbers.{HasNumbered, IsOwn}
 
 -- The root as its last settlement left it: all seats are in. It has gathered the actors of the phases so far, and
--- before them what it did itself since the last of them ended, which changed nothing. It was told that end; since then
--- no row was changed, and it has seen no word below where the writer was then
+-- before them what it did itself since the last of them ended, under the number 0, which changed nothing. It was told
+-- that end; since then no row was changed, and it has seen no word below where the writer was then
 pub record IsSettled (setting : Setting) (change : Label → Change) (switches : TableId) (ended : List Ended)
     (r : RootView) : Type 0 where
   pub own : List Worked
   pub gathered : AreGathered (own ++ all_of ended) r.seat r.words r.draws
-  pub quiet : AllCalls IsQuiet (calls_of_all own)
+  pub number : r.seat.number ≡ 0
+  pub alone : Each IsOwn own
   pub keeps : AllCalls (AllKeepWords (version_after setting change)) (calls_of_all (own ++ all_of ended))
   pub first : PhaseEnd setting change switches r.seat.start (all_of ended)
   pub made : r.seat.made ≡ first.seat.made
@@ -73,7 +76,8 @@ counters_of lost events = record {
 }
 
 -- Behind the phases before, with those after ahead: the run of them over this board, and its reports, which a report
--- can have; a root that has settled, with enough left; and each session in its seat. `run` is what is known of the run
+-- can have; a root that has settled, with enough left, and that split a seat off for each block, numbered as they are;
+-- and each session in its seat. `run` is what is known of the run
 pub record IsBetweenPhases (setting : Setting) (phases : List Phase) (switches : TableId) (before after : List Phase)
     (root : RootView) (seats : List (Option Book)) (lost : LostEvents) (reports : List PhaseParts) : Type 0 where
   pub limits : AreInRange setting.limits
@@ -83,6 +87,7 @@ pub record IsBetweenPhases (setting : Setting) (phases : List Phase) (switches :
   pub told : run.reports ≡ reports
   pub good : All IsPhase reports
   pub settled : IsSettled setting (change_in phases) switches run.ended root
+  pub by_number : HasNumbered run.spells run.ended root
   pub spared : IsSpared (numbered 1 before) root
   pub wide : length seats ≡ 64
   pub seated : (session : ℕ) → 1 ≤ session → session ≤ 64

@@ -1,3 +1,4 @@
+pub mod SeatNumbers
 pub mod BetweenPhases
 pub mod PhaseResults
 pub mod TakenSeats

@@ -15,7 +15,8 @@ use Rattle.pfs_switches.specs.OpeningWords.{opening_words}
 use Rattle.pfs_switches.specs.SeatViews.{Known as WordsKnown, Place as WordsPlace, known as known_words}
 use Rattle.pfs_tickets.specs.Knowledge.{left_with, given as tickets_given, root as tickets_root, stake as all_of}
 use Rattle.pfs_tickets.specs.SeatViews.{Known as TicketsKnown, known as known_tickets}
-use Rattle.pfs_board_root.specs.Roots.{AreSplit, HasSplit, IsRooted, RootView, opening_at, root_view}
+use Rattle.pfs_board_store.specs.declared.rows.Seats.{Seats}
+use Rattle.pfs_board_root.specs.Roots.{AreSplit, HasSplit, IsRooted, RootView, opening_at, root_of, root_view}
 
 module _ (board : BoardPlace) (switches : WordsPlace) (tickets : TableId) (b b' : BoardKnown) (w w' : WordsKnown) (t t' : TicketsKnown) (p d : ℕ)
     (eb : b' ≡ known_board b.board (split_off b.view p)) (ew : w' ≡ known_words w.switches (split_left w.view)) (et : t' ≡ known_tickets t.tickets (left_with t.view d)) where
@@ -32,6 +33,7 @@ module _ (board : BoardPlace) (switches : WordsPlace) (tickets : TableId) (b b' 
     switches = refl;
     tickets = refl;
     start = ap (λ (k : BoardKnown). k.view.start) eb;
+    number = ap (λ (k : BoardKnown). k.view.number) eb;
     seats = ap (λ (k : BoardKnown). k.view.seats) eb;
     words_seats = ap (λ (k : WordsKnown). k.view.seats) ew;
     draws_seats = ap (λ (k : TicketsKnown). k.view.seats) et;
@@ -105,6 +107,7 @@ split_none p d r = record {
   switches = refl;
   tickets = refl;
   start = refl;
+  number = refl;
   seats = omega arith;
   words_seats = omega arith;
   draws_seats = omega arith;
@@ -123,6 +126,7 @@ split_more n p d r s u f g = record {
   switches = g.switches ∙ f.switches;
   tickets = g.tickets ∙ f.tickets;
   start = g.start ∙ f.start;
+  number = g.number ∙ f.number;
   seats = omega (arith, f.seats, g.seats);
   words_seats = omega (arith, f.words_seats, g.words_seats);
   draws_seats = omega (arith, f.draws_seats, g.draws_seats);
@@ -169,6 +173,18 @@ first_rooted flags run board switches tickets b w t eb ew opening et same sizes 
   where
     zeros : (n : ℕ) → length (replicate n (let z : ℕ = 0 in z)) ≡ n
     zeros n = length-replicate n 0
+
+-- its seats tell all that it knows
+pub same_root : (flags : List ℕ) (run : TableId) (board : BoardPlace) (switches : WordsPlace) (tickets : TableId) (seats : Seats) → IsRooted flags run board switches tickets seats.board seats.switches seats.tickets
+    → root_of seats ≡ root_view board switches tickets seats.board seats.switches seats.tickets
+same_root flags run board switches tickets seats r = λ i. record {
+  board = r.same_board i;
+  switches = r.same_words i;
+  tickets = r.same_tickets i;
+  seat = seats.board.view;
+  words = seats.switches.view;
+  draws = seats.tickets.view;
+}
 
 pub next_split : {A : Type 0} (reached : A → Opening → List Call → Type 0) (flags : List ℕ) (old new : RootView) (count p d : ℕ) (actors : List A) (a : A) → HasSplit count p d old new → length actors ≡ count
     → reached a (opening_at flags new p d 1) [] → AreSplit reached (opening_at flags old p d) 1 actors → AreSplit reached (opening_at flags old p d) 1 (actors ++ a ∷ [])

@@ -9,6 +9,7 @@ use Rattle.pfs_board.specs.declared.view.View.{View}
 use Rattle.pfs_board_admin.specs.LabelWords.{AllKeepWords, version_after}
 use Rattle.pfs_board_session.specs.SeatedViews.{MeetsInside}
 use Rattle.pfs_board_store.specs.RootActors.{AreGathered, Worked}
+use Rattle.pfs_board_store.specs.declared.rows.Seats.{Seats}
 use Rattle.pfs_classes.specs.declared.setting.Setting.{Setting}
 use Rattle.pfs_levels.specs.CallOrder.{top_word}
 use Rattle.pfs_levels.specs.Calls.{Call, Opening}
@@ -37,6 +38,17 @@ root_view board switches tickets b w t = record {
   seat = b.view;
   words = w.view;
   draws = t.view;
+}
+
+-- a root by its seats alone
+abbrev pub root_of : Seats → RootView
+root_of seats = record {
+  board = seats.board.board;
+  switches = seats.switches.switches;
+  tickets = seats.tickets.tickets;
+  seat = seats.board.view;
+  words = seats.switches.view;
+  draws = seats.tickets.view;
 }
 
 -- Its seats are the first of these tables, which are a run's. It is in no action, has lent nothing and holds no row
@@ -76,6 +88,7 @@ pub record HasSplit (count publications draws : ℕ) (old new : RootView) : Type
   pub switches : new.switches ≡ old.switches
   pub tickets : new.tickets ≡ old.tickets
   pub start : new.seat.start ≡ old.seat.start
+  pub number : new.seat.number ≡ old.seat.number
   pub seats : new.seat.seats ≡ old.seat.seats + count
   pub words_seats : new.words.seats ≡ old.words.seats + count
   pub draws_seats : new.draws.seats ≡ old.draws.seats + count
@@ -130,6 +143,7 @@ pub record HasTakenIn (setting : Setting) (change : Label → Change) (ws : List
     pub switches : new.switches ≡ old.switches
     pub tickets : new.tickets ≡ old.tickets
     pub start : new.seat.start ≡ old.seat.start
+    pub number : new.seat.number ≡ old.seat.number
     pub seats : new.seat.seats ≡ old.seat.seats
     pub words_seats : new.words.seats ≡ old.words.seats
     pub draws_seats : new.draws.seats ≡ old.draws.seats

@@ -14,7 +14,7 @@ ghost use Rattle.pfs_switches.specs.OpeningWords.{opening_words};
 ghost use Rattle.pfs_switches.specs.SeatViews.{known as known_words};
 ghost use Rattle.pfs_tickets.specs.Knowledge.{IsWhole as HasAllDraws, root as tickets_root};
 ghost use Rattle.pfs_tickets.specs.SeatViews.{known as known_tickets};
-ghost use Rattle.pfs_board_root.specs.Roots.{AreKnown, AreSplit, HasSplit, HasTakenIn, IsKnown, opening_at};
+ghost use Rattle.pfs_board_root.specs.Roots.{AreKnown, AreSplit, HasSplit, HasTakenIn, IsKnown, opening_at, root_of};
 ghost use Rattle.pfs_board_root.specs.Settlements.{HasSettled};
 
 use pfs_admin::Lost;
@@ -196,6 +196,20 @@ impl<'b, N: Shared> Root<'b, N> {
         self.board
             .restore(&mut self.seats.board, Desk::new(admin, writer));
         lost
+    }
+
+    /// Its seats, which know all that it knew. Its setup words opened with the flags of its setting.
+    pub fn into_seats(self) -> Seats
+        ensures same { root_of result ≡ self.entry }
+        ensures opened { result.switches.view.start ≡ opening_words (opening_flags N.setting opening_objects) }
+    {
+        let Root {
+            board: _,
+            switches: _,
+            tickets: _,
+            seats,
+        } = self;
+        seats
     }
 
     // What holds between calls.

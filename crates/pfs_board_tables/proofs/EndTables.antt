@@ -106,6 +106,10 @@ module _ (setting : Setting) (change : Label → Change) (run : TableId) (actors
         listed = h.listed;
         lost_are = b.lost_are ∙ ap (λ (z : State). lost_in z.kept.now) (sym x.admin_is);
         gathered = b.gathered;
+        numbers = (
+          h.read.kept.number ∙ ap (λ (v : View). v.number) a.seat,
+          (ap (λ (o : Opening). o.board.number) h.read.begun ∙ ap (λ (v : View). v.number) a.seat, (refl, tt)),
+        );
         quiet = (last_idle.quiet, (idle.quiet, (first_idle.quiet, tt)));
         keep = (last_idle.keep, (idle.keep, (first_idle.keep, keep)));
         made = ap (λ (v : View). v.made) b.seat ∙ (h.read.kept.made ∙ (ap (λ (v : View). v.made) a.seat
@@ -124,6 +128,8 @@ module _ (setting : Setting) (change : Label → Change) (run : TableId) (actors
           switches = b.switches ∙ (h.read.kept.switches ∙ a.switches);
           tickets = b.tickets ∙ (h.read.kept.tickets ∙ a.tickets);
           start = ap (λ (v : View). v.start) b.seat ∙ start_is;
+          number = ap (λ (v : View). v.number) b.seat ∙ (h.read.kept.number ∙ ap (λ (v : View). v.number) a.seat);
+          seats = ap (λ (v : View). v.seats) b.seat ∙ (h.read.kept.seats ∙ ap (λ (v : View). v.seats) a.seat);
           allowance = ap (λ (v : View). v.allowance) b.seat ∙ (h.read.kept.allowance ∙ ap (λ (v : View). v.allowance) a.seat);
           draws = left;
           whole = (subst IsWhole (sym b.seat) h.whole, subst (λ (t : TicketView). HasAllDraws t) (sym left) draws);

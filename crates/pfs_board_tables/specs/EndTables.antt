@@ -3,6 +3,7 @@ use Rattle.std.specs.Prelude.{◌≡◌, ◌≤◌, ℕ, List, ◌∷◌, ◌++�
 use Rattle.std.specs.List.{flat_map}
 use Rattle.atomic_table.specs.Seated.{TableId}
 use Rattle.pfs_admin.specs.declared.changes.Change.{Change}
+use Rattle.pfs_board.specs.History.{Each}
 use Rattle.pfs_board.specs.Knowledge.{IsWhole}
 use Rattle.pfs_board.specs.declared.view.Label.{Label}
 use Rattle.pfs_board_admin.specs.LabelWords.{AllKeepWords, version_after}
@@ -47,13 +48,15 @@ pub record HasStayed (old new : RootView) : Type 0 where
   pub switches : new.switches ≡ old.switches
   pub tickets : new.tickets ≡ old.tickets
   pub start : new.seat.start ≡ old.seat.start
+  pub number : new.seat.number ≡ old.seat.number
+  pub seats : new.seat.seats ≡ old.seat.seats
   pub allowance : new.seat.allowance ≡ old.seat.allowance
   pub draws : new.draws ≡ old.draws
   pub whole : IsWhole new.seat × HasAllDraws new.draws
 
 -- Behind these actors the root was told an end, read the tables of a report, and was told another end, which says what
--- was lost of containers. What it did itself are actors more, which changed nothing and kept to their words; so no row
--- was changed since the first end, and no word is seen at a version below it
+-- was lost of containers. What it did itself are actors more, under its own number, which changed nothing and kept to
+-- their words; so no row was changed since the first end, and no word is seen at a version below it
 pub record HasReadTables (setting : Setting) (change : Label → Change) (switches : TableId) (before : List Worked)
     (tables : List TableReport) (lost : Lost) (old new : RootView) : Type 0 where
   pub own : List Worked
@@ -63,6 +66,7 @@ pub record HasReadTables (setting : Setting) (change : Label → Change) (switch
   pub listed : AreListed setting tables reads.calls
   pub lost_are : lost ≡ lost_in read.last.admin.kept.now
   pub gathered : AreGathered (met ∷ (reads ∷ (own ++ before))) new.seat new.words new.draws
+  pub numbers : Each (λ (w : Worked). w.start.board.number ≡ old.seat.number) (met ∷ (reads ∷ own))
   pub quiet : AllCalls IsQuiet (calls_of_all (met ∷ (reads ∷ own)))
   pub keep : AllCalls (AllKeepWords (version_after setting change))
       (calls_of_all (met ∷ (reads ∷ (own ++ before))))

@@ -40,14 +40,15 @@ nothing_lost = record { digests = 0; statements = 0; waits = 0 }
 abbrev no_run : Standing
 no_run = record { ended = []; spells = []; reports = [] }
 
-module _ (setting : Setting) (phases : List Phase) (flags : List ℕ) (run : TableId) (lost : Lost) (old new : RootView) (s : HasSettled setting (change_in phases) flags run [] lost old new)
+module _ (setting : Setting) (phases : List Phase) (flags : List ℕ) (run : TableId) (lost : Lost) (old new : RootView) (s : HasSettled setting (change_in phases) flags run [] lost old new) (first : old.seat.number ≡ 0)
     (whole : IsWhole new.seat) (draws : HasAllDraws new.draws) where
   -- as if its seat were that of before, which it is
   settled_as : IsSettled setting (change_in phases) run [] (record new { seat = old.seat })
   settled_as = record {
     own = own_meet flags old s.ended.pen.view ∷ [];
     gathered = subst (λ (z : View). AreGathered (own_meet flags old s.ended.pen.view ∷ []) z new.words new.draws) s.seat s.gathered;
-    quiet = (tt, tt);
+    number = first;
+    alone = (record { number = first; quiet = tt }, tt);
     keeps = (((λ some. absurd (omega (arith, some)), λ out. refl), tt), tt);
     first = s.ended;
     made = sym (ap (λ (z : View). z.made) s.seat_was);
@@ -59,8 +60,8 @@ module _ (setting : Setting) (phases : List Phase) (flags : List ℕ) (run : Tab
   pub settled : IsSettled setting (change_in phases) run [] new
   settled = subst (λ (z : View). IsSettled setting (change_in phases) run [] (record new { seat = z })) (sym s.seat) settled_as
 
-  pub begun_run : BeginLaw → IsRunsBoard old.seat.start → 2 ^ 47 ≤ new.seat.allowance → 2 ^ 47 ≤ new.draws.draws → IsBetweenPhases setting phases run [] phases new (replicate 64 None) nothing_lost []
-  begun_run begin runs spare tickets = record {
+  pub begun_run : BeginLaw → IsRunsBoard old.seat.start → old.seat.seats ≡ 0 → 2 ^ 47 ≤ new.seat.allowance → 2 ^ 47 ≤ new.draws.draws → IsBetweenPhases setting phases run [] phases new (replicate 64 None) nothing_lost []
+  begun_run begin runs none spare tickets = record {
     limits = setting.in_range;
     board = subst (λ (z : View). IsRunsBoard z.start) (sym s.seat) runs;
     run = no_run;
@@ -68,6 +69,7 @@ module _ (setting : Setting) (phases : List Phase) (flags : List ℕ) (run : Tab
     told = refl;
     good = All-nil IsPhase;
     settled = settled;
+    by_number = record { seats = ap (λ (z : View). z.seats) s.seat ∙ none; theirs = refl };
     spared = record { publications = omega (arith, spare); tickets = omega (arith, tickets) };
     wide = length-replicate {A = Option Book} 64 None;
     seated = λ session low high. subst (Sits setting phases [] [] session) (sym (get_or-replicate 64 (session - 1) None None (omega (arith, low, high)))) refl;
@@ -85,7 +87,7 @@ opened_run law setting now change phases run board switches tickets b w t lost n
     subst (λ (z : Label → Change). HasSettled setting z (opening_flags setting opening_objects) run [] lost was new) f s in
     let here : HasSettled now (change_in phases) (opening_flags now opening_objects) run [] lost was new =
     subst (λ (z : Setting). HasSettled z (change_in phases) (opening_flags z opening_objects) run [] lost was new) e named in
-    begun_run now phases (opening_flags now opening_objects) run lost was new here whole.0 whole.1 law opened.runs (omega (arith, ap (λ (v : View). v.allowance) s.seat)) (omega (arith, ap (λ (v : TicketView). v.draws) s.draws))
+    begun_run now phases (opening_flags now opening_objects) run lost was new here refl whole.0 whole.1 law opened.runs refl (omega (arith, ap (λ (v : View). v.allowance) s.seat)) (omega (arith, ap (λ (v : TicketView). v.draws) s.draws))
 
 pub opened_as : (setting now : Setting) (run : TableId) (board : BoardPlace) (switches : WordsPlace) (tickets : TableId) (b : BoardKnown) (w : WordsKnown) (t : TicketsKnown) → setting ≡ now
     → HaveOpened now run board switches tickets b w t → HaveOpened setting run board switches tickets b w t

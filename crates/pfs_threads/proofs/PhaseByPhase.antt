@@ -4,17 +4,26 @@ use Rattle.std.proofs.Math.ListN.{drop_of_length-le}
 use Rattle.std.proofs.Math.Seq.{drop-cons}
 use Rattle.std.proofs.lemmas.List.{take_all, take_more, take-append-drop}
 use Rattle.atomic_table.specs.Seated.{TableId}
+use Rattle.pfs_admin.specs.OpeningState.{opening_flags}
+use Rattle.pfs_board_phase.proofs.SeatNumbers.{own_numbered}
 use Rattle.pfs_board_phase.specs.BetweenPhases.{IsBetweenPhases}
-use Rattle.pfs_board_root.specs.Roots.{RootView}
+use Rattle.pfs_board_root.specs.Roots.{RootView, root_of}
+use Rattle.pfs_board_store.specs.declared.rows.Seats.{Seats}
 use Rattle.pfs_classes.specs.declared.setting.Setting.{Setting}
 use Rattle.pfs_journal.specs.declared.report.PhaseParts.{PhaseParts}
 use Rattle.pfs_journal.specs.declared.report.ReportParts.{ReportParts}
+use Rattle.pfs_law_board.specs.PhaseEnds.{all_of}
 use Rattle.pfs_law_phases.specs.Behind.{EndLaw}
 use Rattle.pfs_law_report.specs.declared.counts.LostEvents.{LostEvents}
+use Rattle.pfs_law_script.specs.ReportSpells.{ArePhasesTold}
+use Rattle.pfs_law_shared.specs.Shares.{actors_of}
+use Rattle.pfs_matching.specs.ObjectRules.{opening_objects}
 use Rattle.pfs_runs.specs.Runs.{IsRun}
 use Rattle.pfs_script.specs.declared.blocks.Phase.{Phase}
 use Rattle.pfs_seats.specs.Seats.{depth_of}
 use Rattle.pfs_session.specs.SessionStates.{Book}
+use Rattle.pfs_switches.specs.OpeningWords.{opening_words}
+use Rattle.pfs_threads.specs.Records.{HasRecorded}
 
 -- what of a list lies ahead of one of its elements, with it, and behind
 ahead : {A : Type 0} (xs : List A) (i : ℕ) (x : A) → i < length xs → x ≡ get_or xs i x → drop i xs ≡ x ∷ drop (i + 1) xs
@@ -39,8 +48,27 @@ module _ (setting : Setting) (phases : List Phase) (run : TableId) (root : RootV
       subst (λ (z : List Phase). IsBetweenPhases setting phases run z (drop (i + 1) phases) root seats lost reports) more between
 
   -- behind the last one
-  pub is_run : EndLaw → (i : ℕ) → length phases ≤ i → IsAt i → (report : ReportParts) → report.format ≡ 1 → report.phases ≡ reports → IsRun setting phases report
-  is_run law i long at report format told =
-      let all = subst (λ (z : List Phase). IsBetweenPhases setting phases run z (drop i phases) root seats lost reports) (take_all i phases long) at in
-      let b = subst (λ (z : List Phase). IsBetweenPhases setting phases run phases z root seats lost reports) (drop_of_length-le phases long) all in
-      law setting phases (depth_of phases) run root.seat.start b.run report b.behind format (told ∙ sym b.told)
+  module _ (i : ℕ) (long : length phases ≤ i) (at : IsAt i) (report : ReportParts) (told : report.phases ≡ reports) where
+    last : IsBetweenPhases setting phases run phases [] root seats lost reports
+    last =
+        subst (λ (z : List Phase). IsBetweenPhases setting phases run phases z root seats lost reports) (drop_of_length-le phases long)
+        (subst (λ (z : List Phase). IsBetweenPhases setting phases run z (drop i phases) root seats lost reports) (take_all i phases long) at)
+
+    pub is_run : EndLaw → report.format ≡ 1 → IsRun setting phases report
+    is_run law format = law setting phases (depth_of phases) run root.seat.start last.run report last.behind format (told ∙ sym last.told)
+
+    pub has_recorded : (named : Setting) (store : Seats) → named ≡ setting → root_of store ≡ root → store.switches.view.start ≡ opening_words (opening_flags named opening_objects) → HasRecorded setting phases report store
+    has_recorded named store same is opened =
+        let b : IsBetweenPhases setting phases run phases [] (root_of store) seats lost reports =
+        subst (λ (r : RootView). IsBetweenPhases setting phases run phases [] r seats lost reports) (sym is) last in
+        record {
+          board = b.board;
+          words = opened ∙ ap (λ (z : Setting). opening_words (opening_flags z opening_objects)) same;
+          whole = (b.settled.whole, b.settled.all_draws);
+          spells = b.run.spells;
+          course = b.behind.course;
+          told = subst (λ z. ArePhasesTold setting 1 phases z b.run.spells) (b.told ∙ sym told) b.behind.told;
+          actors = b.settled.own ++ all_of b.run.ended;
+          by_number = own_numbered (actors_of b.run.spells) b.settled.own (all_of b.run.ended) b.settled.alone b.by_number.theirs;
+          gathered = b.settled.gathered;
+        }

@@ -3,8 +3,9 @@
 
 mod run;
 
-pub use crate::run::run_threads;
+pub use crate::run::{Recorded, run_threads};
 pub use pfs_board_session::{Gate, OpenGate};
+pub use pfs_board_store::Seats;
 
 /// Memory ran out.
 pub type NoMemory = std::alloc::AllocError;

@@ -1,7 +1,7 @@
 use Rattle.std.proofs.Common.{◌+◌, List, drop, take, sym, subst, ap, ◌∙◌, arith}
 use Rattle.std.specs.List.{All}
 use Rattle.pfs_journal.specs.Reports.{IsPhase}
-use Rattle.pfs_threads.proofs.PhaseByPhase.{before_phase, behind_phase, is_run, whole_is}
+use Rattle.pfs_threads.proofs.PhaseByPhase.{before_phase, behind_phase, has_recorded, is_run, whole_is}
 use Rattle.pfs_threads.proofs.run.run_phases.Goals as goal
 
 pub run_phase-requires-clause-here : goal.run_phase-requires-clause-here
@@ -27,8 +27,14 @@ loop-phase-preserved g c =
 pub loop-phase-init : goal.loop-phase-init
 loop-phase-init g c = rw c.new.ensures.items (rw c.in_ok-empty_seats.ensures c.requires.begun)
 
-pub new-requires-3 : goal.new-requires-3
-new-requires-3 g c = record { format = omega arith; phases = subst (All IsPhase) (sym c.new-2.ensures) c.loop-phase.invariant.good }
+pub new-report-requires : goal.new-report-requires
+new-report-requires g c = record { format = omega arith; phases = subst (All IsPhase) (sym c.new-2.ensures) c.loop-phase.invariant.good }
 
-pub returns : goal.returns
-returns g c = is_run c.args.setting.now c.args.phases.now g.N.Shared.switches _ _ _ _ c.run.ensures c.loop-phase.phase-index c.loop-phase-test.false c.loop-phase.invariant _ (ap (λ z. z.format) c.new-3.ensures) (ap (λ z. z.phases) c.new-3.ensures ∙ c.new-2.ensures)
+pub returns-clause-run : goal.returns-clause-run
+returns-clause-run g c =
+    is_run c.args.setting.now c.args.phases.now g.N.Shared.switches _ _ _ _ c.loop-phase.phase-index c.loop-phase-test.false c.loop-phase.invariant _ (ap (λ z. z.phases) c.new-report.ensures ∙ c.new-2.ensures) c.run.ensures (ap (λ z. z.format) c.new-report.ensures)
+
+pub returns-clause-store : goal.returns-clause-store
+returns-clause-store g c =
+    has_recorded c.args.setting.now c.args.phases.now g.N.Shared.switches _ _ _ _ c.loop-phase.phase-index c.loop-phase-test.false c.loop-phase.invariant _ (ap (λ z. z.phases) c.new-report.ensures ∙ c.new-2.ensures) g.N.Named.setting _ c.requires.setting c.into_seats.ensures.same
+    c.into_seats.ensures.opened
