@@ -7,8 +7,11 @@ use pfs_outside::{NoMemory, StdSink, StdSource};
 use pfs_top::{Status, pfs};
 use std::alloc::Global;
 use std::env::FillError;
+use std::io::{Stdin, Stdout};
 use std::process::ExitCode;
 use std::rt::Env;
+use std::sync::Wait;
+use std::thread::Threads;
 
 // The room for a word: Linux hands over none that is longer. Zeros may lead the number of a load, so a command may be
 // as long.
@@ -42,18 +45,22 @@ fn zeros(alloc: Global, len: usize) -> Result<Vec<u8>, NoMemory>
 
 // Runs the command of the words over the standard streams. Where what the buffer still holds can't be written out, the
 // status is that of a failed write, whatever came before.
-fn run(rt: &HostRuntime) -> Result<Status, NoMemory> {
+fn run<R: Env + AllocGlobal + Threads + Wait + Sync>(
+    rt: &R,
+    input: Stdin,
+    output: Stdout,
+) -> Result<Status, NoMemory> {
     let words = words(rt)?;
-    let mut source = StdSource::new(rt.stdin());
-    let mut sink = StdSink::new(rt.alloc(), rt.stdout())?;
-    let status = pfs(rt.alloc(), &words, &mut source, &mut sink);
+    let mut source = StdSource::new(input);
+    let mut sink = StdSink::new(rt.alloc(), output)?;
+    let end = pfs(rt, rt.alloc(), &words, &mut source, &mut sink);
     match sink.flush() {
-        Ok(()) => Ok(status),
+        Ok(()) => Ok(end.status),
         Err(_) => Ok(Status::WriteFault),
     }
 }
 
 fn main(rt: HostRuntime) -> ExitCode {
-    let status = run(&rt).unwrap_or(Status::NoMemory);
+    let status = run(&rt, rt.stdin(), rt.stdout()).unwrap_or(Status::NoMemory);
     ExitCode::from(status.number())
 }

@@ -1,9 +1,10 @@
 -- How a call ends, from how its parts end.
-use Rattle.std.proofs.Common.{ℕ, ◌≡◌, ◌≤◌, ◌<◌, ◌⊎◌, inl, inr, List, length, Option, Some, IfSome, Result, Ok, Err, OnOk, ap, subst, refl, arith}
+use Rattle.std.proofs.Common.{ℕ, ◌≡◌, ◌≤◌, ◌<◌, ◌⊎◌, inl, inr, List, length, Option, Some, None, IfSome, Result, Ok, Err, IfErr, IfOk, OnOk, ap, subst, refl, arith}
 use Rattle.std.specs.Prelude.{String}
 use Rattle.std.specs.declared.alloc.Global.{Global}
 use Rattle.pfs_outside.specs.DeviceCalls.{Rose, Added}
 use Rattle.pfs_outside.specs.WholeStreams.{Puts, ReadToEnd, ReadPast}
+use Rattle.pfs_board_store.specs.declared.rows.Seats.{Seats}
 use Rattle.pfs_outside.specs.declared.writing.WriteStop.{WriteStop}
 use Rattle.pfs_outside.specs.declared.writing.WriteStop.TheVariants as stop
 use Rattle.pfs_top.specs.declared.statuses.Status.{Status}
@@ -14,8 +15,22 @@ use Rattle.pfs_script.specs.declared.reasons.Reason.{Reason}
 use Rattle.pfs_script.specs.declared.reasons.Reason.TheVariants.{TooLong}
 use Rattle.pfs_script.specs.Scripts.{IsScript, IsFirstFault}
 use Rattle.pfs_gen.specs.GeneratedScript.{script_text}
-use Rattle.pfs_top.specs.Commands.{most_bytes, HasReport, HasSummaries, HasLoad, HasFault, HasRead, HasInput, HasPlain, Has, ToldPart, Tells, Ends, ReadBy, status_after}
-use Rattle.pfs_top.specs.CommandWords.{AsksRun, AsksPlain, AsksScript, AsksLoad}
+use Rattle.pfs_journal.specs.Reports.{IsReport}
+use Rattle.pfs_journal.specs.ReportLines.{FitsReport}
+use Rattle.pfs_journal.specs.Spelling.{spelling}
+use Rattle.pfs_journal.specs.declared.report.ReportParts.{ReportParts}
+use Rattle.pfs_law_summaries.specs.SummaryLaws.{IsPlainCountedRun}
+use Rattle.pfs_top.specs.Commands.{Runs, RunOn, most_bytes, HasReport, HasSummaries, HasLoad, HasFault, HasBadText, HasBadInput, HasScript, IsWithin, HasInput, HasPlain, HasStore, store_at, Has, ToldPart, Tells, Writes, Ends, ReadBy, ReadWhole, status_after}
+use Rattle.pfs_top.specs.CommandWords.{AsksRun, AsksPlain, AsksLoad}
+
+-- what two clauses say of an answer holds of it at once
+pub both_ok : {T E : Type 0} (P Q : T → Type 0) (outcome : Result T E) → IfOk outcome P → IfOk outcome Q → IfOk outcome (λ x. P x × Q x)
+both_ok P Q (Ok x) p q = (p, q)
+both_ok P Q (Err e) p q = tt
+
+pub err_weaker : {T E : Type 0} (P Q : E → Type 0) (outcome : Result T E) → ((e : E) → P e → Q e) → IfErr outcome P → IfErr outcome Q
+err_weaker P Q (Ok x) f p = tt
+err_weaker P Q (Err e) f p = f e p
 
 -- a status that goes with a text of its own
 abbrev pub HasOwnText : Status → Type 0
@@ -37,13 +52,6 @@ pub told : (P : Status → List ℕ → Type 0) (before after : Option (List ℕ
 told P before after old now due status (Ok done) own h p = told_whole P before after due (Rose old now) status own h p.0
 told P before after old now due status (Err stop.Failed) own h p = (p.1, (status, due, h, p.0))
 told P before after old now due status (Err stop.NoMemory) own h p = inr (status, due, h, p.0)
-
--- and where more is told of it once it was written
-pub told_more : (P : Status → List ℕ → Type 0) (before after : Option (List ℕ)) (old now : ℕ) (due : List ℕ) (status : Status) (outcome : Result (Unit {0}) WriteStop) → HasOwnText status → OnOk outcome (P status due) → P WriteFault due → Puts before after old now due outcome
-    → Tells P before after (Rose old now) (status_after outcome status)
-told_more P before after old now due status (Ok done) own h part p = told_whole P before after due (Rose old now) status own h p.0
-told_more P before after old now due status (Err stop.Failed) own h part p = (p.1, (WriteFault, due, part, p.0))
-told_more P before after old now due status (Err stop.NoMemory) own h part p = inr (WriteFault, due, part, p.0)
 
 part_as : (P Q : Status → List ℕ → Type 0) (before after : Option (List ℕ)) → ((status : Status) (due : List ℕ) → P status due → Q status due) → ToldPart P before after → ToldPart Q before after
 part_as P Q before after f p = (p.0, p.1, f p.0 p.1 p.2, p.3)
@@ -76,17 +84,44 @@ ends_as Ran Goes P Q before after R W ReadFault g f t = (g t.0, t.1, t.2)
 ends_as Ran Goes P Q before after R W WriteFault g f t = tells_as P Q before after W WriteFault f t
 ends_as Ran Goes P Q before after R W NoMemory g f t = tells_as P Q before after W NoMemory f t
 
--- the text of a script's phases is that of its bytes
-pub read_ran : (bytes : List ℕ) (setting : Setting) (phases : List Phase) → IsScript bytes setting phases → (status : Status) (due : List ℕ) → HasReport setting phases status due → HasRead bytes status due
-read_ran bytes setting phases script Done due h = (setting, phases, script, h)
-read_ran bytes setting phases script Usage due h = absurd h
-read_ran bytes setting phases script (BadScript line reason) due h = absurd h
-read_ran bytes setting phases script ReadFault due h = absurd h
-read_ran bytes setting phases script WriteFault due h = (setting, phases, script, h)
-read_ran bytes setting phases script NoMemory due h = absurd h
+-- a report was offered
+pub writes : (report : ReportParts) (before after : Option (List ℕ)) (old now : ℕ) (outcome : Result (Unit {0}) WriteStop) → IsReport report → OnOk outcome (FitsReport report) → Puts before after old now (spelling report) outcome → Writes report before after (Rose old now) (status_after outcome Done)
+writes report before after old now (Ok done) good fits p = (good, fits, p.0)
+writes report before after old now (Err stop.Failed) good fits p = (p.1, good, p.0)
+writes report before after old now (Err stop.NoMemory) good fits p = (good, p.0)
 
--- nor is a fault's line that of other bytes
-pub fault_read : (bytes : List ℕ) (line : ℕ) (reason : Reason) → IsFirstFault bytes line reason → (status : Status) (due : List ℕ) → HasFault line reason status due → HasRead bytes status due
+-- and it is one of a run in this way
+pub report_told : (Ran : Runs) (setting : Setting) (phases : List Phase) (report : ReportParts) → Ran setting phases report → (before after : Option (List ℕ)) (W : Type 0) (status : Status) → Writes report before after W status → Tells (HasReport Ran setting phases) before after W status
+report_told Ran setting phases report ran before after W Done w = (spelling report, (report, w.0, w.1, ran, refl), w.2)
+report_told Ran setting phases report ran before after W Usage w = absurd w
+report_told Ran setting phases report ran before after W (BadScript line reason) w = absurd w
+report_told Ran setting phases report ran before after W ReadFault w = absurd w
+report_told Ran setting phases report ran before after W WriteFault w = (w.0, (WriteFault, spelling report, (report, w.1, ran, refl), w.2))
+report_told Ran setting phases report ran before after W NoMemory w = inr (WriteFault, spelling report, (report, w.0, ran, refl), w.1)
+
+-- with the store where it is handed on, and without it else
+pub recorded_told : (setting : Setting) (phases : List Phase) (report : ReportParts) (store : Seats) → RunOn (Some store) setting phases report → (before after : Option (List ℕ)) (W : Type 0) (status : Status) → Writes report before after W status → Tells (HasReport (RunOn (store_at status store)) setting phases) before after W status
+recorded_told setting phases report store ran before after W Done w = report_told (RunOn (Some store)) setting phases report ran before after W Done w
+recorded_told setting phases report store ran before after W Usage w = absurd w
+recorded_told setting phases report store ran before after W (BadScript line reason) w = absurd w
+recorded_told setting phases report store ran before after W ReadFault w = absurd w
+recorded_told setting phases report store ran before after W WriteFault w = report_told (RunOn None) setting phases report ran.0 before after W WriteFault w
+recorded_told setting phases report store ran before after W NoMemory w = report_told (RunOn None) setting phases report ran.0 before after W NoMemory w
+
+pub handed_on : (status : Status) (store : Seats) → HasStore (Unit {0}) status (store_at status store)
+handed_on Done store = tt
+handed_on Usage store = refl
+handed_on (BadScript line reason) store = refl
+handed_on ReadFault store = refl
+handed_on WriteFault store = refl
+handed_on NoMemory store = refl
+
+-- where nothing was written yet
+pub tells_on : (P : Status → List ℕ → Type 0) (before mid after : Option (List ℕ)) (old between now : ℕ) (status : Status) → mid ≡ before → between ≡ old → Tells P mid after (Rose between now) status → Tells P before after (Rose old now) status
+tells_on P before mid after old between now status e f t = subst (λ (n : ℕ). Tells P before after (Rose n now) status) f (subst (λ (b : Option (List ℕ)). Tells P b after (Rose between now) status) e t)
+
+-- a fault's line is that of these bytes
+pub fault_read : (bytes : List ℕ) (line : ℕ) (reason : Reason) → IsFirstFault bytes line reason → (status : Status) (due : List ℕ) → HasFault line reason status due → HasBadText bytes status due
 fault_read bytes line reason first Done due h = absurd h
 fault_read bytes line reason first Usage due h = absurd h
 fault_read bytes line reason first (BadScript l r) due h = (rw (h.0, h.1) first, rw (h.0, h.1) h.2)
@@ -94,14 +129,41 @@ fault_read bytes line reason first ReadFault due h = absurd h
 fault_read bytes line reason first WriteFault due h = absurd h
 fault_read bytes line reason first NoMemory due h = absurd h
 
--- the text of the bytes that came is that of the source
-pub input_read : (input : Option (List ℕ)) (bytes : List ℕ) → IfSome input (λ text. bytes ≡ text) → length bytes ≤ most_bytes → (status : Status) (due : List ℕ) → HasRead bytes status due → HasInput input status due
-input_read input bytes came short Done due h = (bytes, came, short, h)
-input_read input bytes came short Usage due h = absurd h
-input_read input bytes came short (BadScript line reason) due h = inr (bytes, came, short, h)
-input_read input bytes came short ReadFault due h = absurd h
-input_read input bytes came short WriteFault due h = (bytes, came, short, h)
-input_read input bytes came short NoMemory due h = absurd h
+-- what is told of the bytes that came is told of the source
+pub text_bad : (input : Option (List ℕ)) (bytes : List ℕ) → IsWithin input bytes → (status : Status) (due : List ℕ) → HasBadText bytes status due → HasBadInput input status due
+text_bad input bytes within Done due h = absurd h
+text_bad input bytes within Usage due h = absurd h
+text_bad input bytes within (BadScript line reason) due h = inr (bytes, within, h)
+text_bad input bytes within ReadFault due h = absurd h
+text_bad input bytes within WriteFault due h = absurd h
+text_bad input bytes within NoMemory due h = absurd h
+
+-- too many bytes are the fault of the source
+pub input_long : (input : Option (List ℕ)) → IfSome input (λ text. most_bytes < length text) → (status : Status) (due : List ℕ) → HasFault 0 TooLong status due → HasBadInput input status due
+input_long input long Done due h = absurd h
+input_long input long Usage due h = absurd h
+input_long input long (BadScript line reason) due h = inl (h.0, h.1, rw (h.0, h.1) h.2, long)
+input_long input long ReadFault due h = absurd h
+input_long input long WriteFault due h = absurd h
+input_long input long NoMemory due h = absurd h
+
+-- a fault of the source is due to it, however a script would be run
+pub bad_told : (Ran : Runs) (input : Option (List ℕ)) (status : Status) (due : List ℕ) → HasBadInput input status due → HasInput Ran input status due
+bad_told Ran input Done due h = absurd h
+bad_told Ran input Usage due h = absurd h
+bad_told Ran input (BadScript line reason) due h = h
+bad_told Ran input ReadFault due h = absurd h
+bad_told Ran input WriteFault due h = absurd h
+bad_told Ran input NoMemory due h = absurd h
+
+-- and so is the report of its script
+pub input_ran : (Ran : Runs) (input : Option (List ℕ)) (setting : Setting) (phases : List Phase) → HasScript input setting phases → (status : Status) (due : List ℕ) → HasReport Ran setting phases status due → HasInput Ran input status due
+input_ran Ran input setting phases script Done due h = (setting, phases, script, h)
+input_ran Ran input setting phases script Usage due h = absurd h
+input_ran Ran input setting phases script (BadScript line reason) due h = absurd h
+input_ran Ran input setting phases script ReadFault due h = absurd h
+input_ran Ran input setting phases script WriteFault due h = (setting, phases, script, h)
+input_ran Ran input setting phases script NoMemory due h = absurd h
 
 -- the summaries of a generated script's phases are a load's
 pub load_shown : (number : ℕ) (setting : Setting) (phases : List Phase) → IsScript (script_text number) setting phases → (status : Status) (due : List ℕ) → HasSummaries setting phases status due → HasLoad number status due
@@ -112,35 +174,26 @@ load_shown number setting phases script ReadFault due h = absurd h
 load_shown number setting phases script WriteFault due h = absurd h
 load_shown number setting phases script NoMemory due h = absurd h
 
--- too many bytes are the fault of the source
-pub input_long : (input : Option (List ℕ)) → IfSome input (λ text. most_bytes < length text) → (status : Status) (due : List ℕ) → HasFault 0 TooLong status due → HasInput input status due
-input_long input long Done due h = absurd h
-input_long input long Usage due h = absurd h
-input_long input long (BadScript line reason) due h = inl (h.0, h.1, rw (h.0, h.1) h.2, long)
-input_long input long ReadFault due h = absurd h
-input_long input long WriteFault due h = absurd h
-input_long input long NoMemory due h = absurd h
-
 -- what is told of a source is so of the words that ask for its script
-pub plain_told : (words : List (String Global)) (input : Option (List ℕ)) → AsksPlain words → (status : Status) (due : List ℕ) → HasInput input status due → HasPlain words input status due
+pub plain_told : (words : List (String Global)) (input : Option (List ℕ)) → AsksPlain words → (status : Status) (due : List ℕ) → HasInput IsPlainCountedRun input status due → HasPlain words input status due
 plain_told words input asks Done due h = (asks, h)
-plain_told words input asks Usage due h = absurd h
+plain_told words input asks Usage due h = absurd h.3
 plain_told words input asks (BadScript line reason) due h = (asks, h)
-plain_told words input asks ReadFault due h = absurd h
+plain_told words input asks ReadFault due h = absurd h.3
 plain_told words input asks WriteFault due h = (asks, h)
-plain_told words input asks NoMemory due h = absurd h
+plain_told words input asks NoMemory due h = absurd h.3
 
-pub script_told : (words : List (String Global)) (input : Option (List ℕ)) → AsksScript words → (status : Status) (due : List ℕ) → HasInput input status due → Has words input status due
-script_told words input asks Done due h = inl (asks, h)
-script_told words input asks Usage due h = absurd h
-script_told words input asks (BadScript line reason) due h = inl (asks, h)
-script_told words input asks ReadFault due h = absurd h
-script_told words input asks WriteFault due h = inl (asks, h)
-script_told words input asks NoMemory due h = absurd h
+pub run_told : (store : Option Seats) (words : List (String Global)) (input : Option (List ℕ)) → AsksRun words → (status : Status) (due : List ℕ) → HasInput (RunOn store) input status due → Has store words input status due
+run_told store words input asks Done due h = inl (asks, h)
+run_told store words input asks Usage due h = absurd h.3
+run_told store words input asks (BadScript line reason) due h = inl (asks, h)
+run_told store words input asks ReadFault due h = absurd h.3
+run_told store words input asks WriteFault due h = inl (asks, h)
+run_told store words input asks NoMemory due h = absurd h.3
 
 -- what a load tells
-pub load_told : (words : List (String Global)) (input : Option (List ℕ)) (number : ℕ) → AsksLoad words number → (status : Status) (due : List ℕ) → HasLoad number status due → Has words input status due
-load_told words input number asks Done due h = inr (number, asks, h)
+pub load_told : (words : List (String Global)) (input : Option (List ℕ)) (number : ℕ) → AsksLoad words number → (status : Status) (due : List ℕ) → HasLoad number status due → Has None words input status due
+load_told words input number asks Done due h = inr (inr (number, asks, h))
 load_told words input number asks Usage due h = absurd h
 load_told words input number asks (BadScript line reason) due h = absurd h
 load_told words input number asks ReadFault due h = absurd h
@@ -148,8 +201,8 @@ load_told words input number asks WriteFault due h = absurd h
 load_told words input number asks NoMemory due h = absurd h
 
 -- what is told of other words than `run` and a load
-pub handed_told : (words : List (String Global)) (input : Option (List ℕ)) → ¬ AsksRun words → ((number : ℕ) → ¬ AsksLoad words number) → (status : Status) (due : List ℕ) → HasPlain words input status due → Has words input status due
-handed_told words input run load Done due h = inl (inr h.0, h.1)
+pub handed_told : (words : List (String Global)) (input : Option (List ℕ)) → ¬ AsksRun words → ((number : ℕ) → ¬ AsksLoad words number) → (status : Status) (due : List ℕ) → HasPlain words input status due → Has None words input status due
+handed_told words input run load Done due h = inr (inl h)
 handed_told words input run load Usage due h = (
   λ command. elim command [
     | inl asks ↦ elim asks [
@@ -160,20 +213,58 @@ handed_told words input run load Usage due h = (
   ],
   h.1,
 )
-handed_told words input run load (BadScript line reason) due h = inl (inr h.0, h.1)
-handed_told words input run load ReadFault due h = inl (inr h.0, h.1)
-handed_told words input run load WriteFault due h = inl (inr h.0, h.1)
-handed_told words input run load NoMemory due h = inl (inr h.0, h.1)
+handed_told words input run load (BadScript line reason) due h = inr (inl h)
+handed_told words input run load ReadFault due h = inr (inl h)
+handed_told words input run load WriteFault due h = inr (inl h)
+handed_told words input run load NoMemory due h = inr (inl h)
 
--- what was read, where the bytes were run that came
-pub read_whole : {S : Type 0} (left : S → Option (List ℕ)) (faults : S → ℕ) (source rest : S) (bytes : List ℕ) (before after : Option (List ℕ)) (W : Type 0) (status : Status)
-    → ReadToEnd left faults source rest most_bytes bytes → Tells (HasRead bytes) before after W status → ReadBy left faults source rest status
-read_whole left faults source rest bytes before after W Done r t = (bytes, r)
-read_whole left faults source rest bytes before after W Usage r t = absurd t.1
-read_whole left faults source rest bytes before after W (BadScript line reason) r t = inl (bytes, r)
-read_whole left faults source rest bytes before after W ReadFault r t = absurd t
-read_whole left faults source rest bytes before after W WriteFault r t = inl (bytes, r)
-read_whole left faults source rest bytes before after W NoMemory r t = record { bytes = bytes; took = r.took; within = omega (arith, r.within) }
+-- no store is there where no run was asked for
+pub unasked : (Asked : Type 0) (status : Status) → ¬ Asked → HasStore Asked status None
+unasked Asked Done never = never
+unasked Asked Usage never = refl
+unasked Asked (BadScript line reason) never = refl
+unasked Asked ReadFault never = refl
+unasked Asked WriteFault never = refl
+unasked Asked NoMemory never = refl
+
+-- nor where there was no script to run
+pub unscripted : (input before after : Option (List ℕ)) (R W : Type 0) (status : Status) → Ends (Unit {0}) (HasBadInput input) before after R W status → HasStore (Unit {0}) status None
+unscripted input before after R W Done t = absurd t.1
+unscripted input before after R W Usage t = refl
+unscripted input before after R W (BadScript line reason) t = refl
+unscripted input before after R W ReadFault t = refl
+unscripted input before after R W WriteFault t = refl
+unscripted input before after R W NoMemory t = refl
+
+-- it is there for the words that asked
+pub asked_for : (Asked : Type 0) → Asked → (status : Status) (store : Option Seats) → HasStore (Unit {0}) status store → HasStore Asked status store
+asked_for Asked asks Done (Some store) h = asks
+asked_for Asked asks Done None h = absurd (h tt)
+asked_for Asked asks Usage store h = h
+asked_for Asked asks (BadScript line reason) store h = h
+asked_for Asked asks ReadFault store h = h
+asked_for Asked asks WriteFault store h = h
+asked_for Asked asks NoMemory store h = h
+
+-- what was read, where the script was run that came
+pub read_whole : (Ran : Runs) (setting : Setting) (phases : List Phase) {S : Type 0} (left : S → Option (List ℕ)) (faults : S → ℕ) (source rest : S) (before after : Option (List ℕ)) (W : Type 0) (status : Status)
+    → ReadWhole left faults source rest → Tells (HasReport Ran setting phases) before after W status → ReadBy left faults source rest status
+read_whole Ran setting phases left faults source rest before after W Done r t = r
+read_whole Ran setting phases left faults source rest before after W Usage r t = absurd t.1
+read_whole Ran setting phases left faults source rest before after W (BadScript line reason) r t = absurd t.1
+read_whole Ran setting phases left faults source rest before after W ReadFault r t = absurd t
+read_whole Ran setting phases left faults source rest before after W WriteFault r t = inl r
+read_whole Ran setting phases left faults source rest before after W NoMemory r t = record { bytes = r.0; took = r.1.took; within = omega (arith, r.1.within) }
+
+-- where its fault was named
+pub read_bad : {S : Type 0} (left : S → Option (List ℕ)) (faults : S → ℕ) (source rest : S) (bytes : List ℕ) (before after : Option (List ℕ)) (W : Type 0) (status : Status)
+    → ReadToEnd left faults source rest most_bytes bytes → Tells (HasBadText bytes) before after W status → ReadBy left faults source rest status
+read_bad left faults source rest bytes before after W Done r t = absurd t.1
+read_bad left faults source rest bytes before after W Usage r t = absurd t.1
+read_bad left faults source rest bytes before after W (BadScript line reason) r t = inl (bytes, r)
+read_bad left faults source rest bytes before after W ReadFault r t = absurd t
+read_bad left faults source rest bytes before after W WriteFault r t = inl (bytes, r)
+read_bad left faults source rest bytes before after W NoMemory r t = record { bytes = bytes; took = r.took; within = omega (arith, r.within) }
 
 -- and where there were too many
 pub read_past : {S : Type 0} (left : S → Option (List ℕ)) (faults : S → ℕ) (source rest : S) (before after : Option (List ℕ)) (W : Type 0) (status : Status)

@@ -1,5 +1,5 @@
 -- What a top call answers, and the text that goes with each answer.
-use Rattle.std.specs.Prelude.{ℕ, ◌≡◌, ◌≤◌, ◌<◌, ◌⊎◌, List, ◌++◌, length, codes, decimal, Option, Some, IfSome, Result, Ok, Err, String}
+use Rattle.std.specs.Prelude.{ℕ, ◌≡◌, ◌≤◌, ◌<◌, ◌⊎◌, List, ◌++◌, length, codes, decimal, Option, Some, None, IfSome, Result, Ok, Err, String}
 use Rattle.std.specs.declared.alloc.Global.{Global}
 use Rattle.pfs_outside.specs.DeviceCalls.{Added}
 use Rattle.pfs_outside.specs.WholeStreams.{AddedPart, ReadToEnd, ReadPast, ReadToFault, ReadPart}
@@ -10,14 +10,16 @@ use Rattle.pfs_script.specs.declared.blocks.Phase.{Phase}
 use Rattle.pfs_script.specs.declared.reasons.Reason.{Reason}
 use Rattle.pfs_script.specs.declared.reasons.Reason.TheVariants.{BadByte, OpenLine, BadForm, OutOfPlace, BadNumber, BadSession, UnknownName, BadLimit, BadNesting, BadStatement, TooLong, TooMuch}
 use Rattle.pfs_script.specs.Scripts.{IsScript, IsFirstFault}
-use Rattle.pfs_law_summaries.specs.SummaryLaws.{IsPlainCountedRun}
+use Rattle.pfs_board_store.specs.declared.rows.Seats.{Seats}
+use Rattle.pfs_law_summaries.specs.SummaryLaws.{IsCountedRun, IsPlainCountedRun}
+use Rattle.pfs_threads.specs.Records.{HasRecorded}
 use Rattle.pfs_journal.specs.declared.report.ReportParts.{ReportParts}
 use Rattle.pfs_journal.specs.ReportLines.{FitsReport}
 use Rattle.pfs_journal.specs.Reports.{IsReport}
 use Rattle.pfs_journal.specs.Spelling.{spelling}
 use Rattle.pfs_gen.specs.GeneratedScript.{script_text}
 use Rattle.pfs_top.specs.Loads.{load_text}
-use Rattle.pfs_top.specs.CommandWords.{AsksPlain, AsksScript, AsksLoad, IsCommand}
+use Rattle.pfs_top.specs.CommandWords.{AsksRun, AsksPlain, AsksLoad, IsCommand}
 use Rattle.pfs_top.specs.declared.statuses.Status.{Status}
 use Rattle.pfs_top.specs.declared.statuses.Status.TheVariants.{Done, Usage, BadScript, ReadFault, WriteFault, NoMemory}
 
@@ -55,24 +57,30 @@ unfoldable pub fault_text : ℕ → Reason → List ℕ
 fault_text line reason =
     codes "bad script: line " ++ decimal line ++ codes " reason " ++ decimal (reason_number reason) ++ codes "\n"
 
--- the text due for phases that were run, at Done alone: what is written of a report that is a plain run of them, in
--- which summaries and rings show what counts there
-abbrev pub HasRun : (ReportParts → List ℕ) → Setting → List Phase → Status → List ℕ → Type 0
-HasRun written setting phases Done due = (report : ReportParts) × IsReport report × IsPlainCountedRun setting phases report
-    × (due ≡ written report)
-HasRun written setting phases _ due = ⊥
+-- what a report of a script's phases is that were run in some way
+abbrev pub Runs : Type 1
+Runs = Setting → List Phase → ReportParts → Type 0
+
+-- the sessions of each phase at once: summaries and rings show what counts there, whoever did what when. Where a store
+-- is handed on, it is the one that recorded this very report
+abbrev pub RunOn : Option Seats → Runs
+RunOn None setting phases report = IsCountedRun setting phases report
+RunOn (Some store) setting phases report = IsCountedRun setting phases report × HasRecorded setting phases report store
 
 -- `run` and `plain` write the whole report: at Done each number on its lines is below 2^64, so that what was written can
 -- be read back. The row of WriteFault is for a front of it, of which that is not told
-abbrev pub HasReport : Setting → List Phase → Status → List ℕ → Type 0
-HasReport setting phases Done due = (report : ReportParts) × IsReport report × FitsReport report
-    × IsPlainCountedRun setting phases report × (due ≡ spelling report)
-HasReport setting phases WriteFault due = HasRun spelling setting phases Done due
-HasReport setting phases _ due = ⊥
+abbrev pub HasReport : Runs → Setting → List Phase → Status → List ℕ → Type 0
+HasReport Ran setting phases Done due = (report : ReportParts) × IsReport report × FitsReport report
+    × Ran setting phases report × (due ≡ spelling report)
+HasReport Ran setting phases WriteFault due = (report : ReportParts) × IsReport report × Ran setting phases report
+    × (due ≡ spelling report)
+HasReport Ran setting phases _ due = ⊥
 
 -- `load` writes the summaries of its last phase
 abbrev pub HasSummaries : Setting → List Phase → Status → List ℕ → Type 0
-HasSummaries setting phases status due = HasRun load_text setting phases status due
+HasSummaries setting phases Done due = (report : ReportParts) × IsReport report × IsCountedRun setting phases report
+    × (due ≡ load_text report)
+HasSummaries setting phases _ due = ⊥
 
 -- the text due to `load` with this number, by the script generated of it
 abbrev pub HasLoad : ℕ → Status → List ℕ → Type 0
@@ -85,26 +93,32 @@ abbrev pub HasFault : ℕ → Reason → Status → List ℕ → Type 0
 HasFault line reason (BadScript number cause) due = (number ≡ line) × (cause ≡ reason) × (due ≡ fault_text line reason)
 HasFault line reason _ due = ⊥
 
--- of bytes that were read
-abbrev pub HasRead : List ℕ → Status → List ℕ → Type 0
-HasRead bytes Done due = (setting : Setting) × (phases : List Phase) × IsScript bytes setting phases
-    × HasReport setting phases Done due
-HasRead bytes WriteFault due = (setting : Setting) × (phases : List Phase) × IsScript bytes setting phases
-    × HasReport setting phases WriteFault due
-HasRead bytes (BadScript line reason) due = IsFirstFault bytes line reason × (due ≡ fault_text line reason)
-HasRead bytes _ due = ⊥
+-- of bytes that are no script
+abbrev pub HasBadText : List ℕ → Status → List ℕ → Type 0
+HasBadText bytes (BadScript line reason) due = IsFirstFault bytes line reason × (due ≡ fault_text line reason)
+HasBadText bytes _ due = ⊥
 
--- of a source with these bytes left, where it tells them
-abbrev pub HasInput : Option (List ℕ) → Status → List ℕ → Type 0
-HasInput input Done due = (bytes : List ℕ) × IfSome input (λ text. bytes ≡ text) × (length bytes ≤ most_bytes)
-    × HasRead bytes Done due
-HasInput input WriteFault due = (bytes : List ℕ) × IfSome input (λ text. bytes ≡ text) × (length bytes ≤ most_bytes)
-    × HasRead bytes WriteFault due
-HasInput input (BadScript line reason) due =
+-- these are all the bytes that a source with these left has, where it tells them, and they are no more than a script may
+-- have
+abbrev pub IsWithin : Option (List ℕ) → List ℕ → Type 0
+IsWithin input bytes = IfSome input (λ text. bytes ≡ text) × (length bytes ≤ most_bytes)
+
+-- it has this script
+abbrev pub HasScript : Option (List ℕ) → Setting → List Phase → Type 0
+HasScript input setting phases = (bytes : List ℕ) × IsWithin input bytes × IsScript bytes setting phases
+
+-- it has none: its bytes are none, or are too many
+abbrev pub HasBadInput : Option (List ℕ) → Status → List ℕ → Type 0
+HasBadInput input (BadScript line reason) due =
     ((line ≡ 0) × (reason ≡ TooLong) × (due ≡ fault_text line reason) × IfSome input (λ text. most_bytes < length text))
-    ⊎ ((bytes : List ℕ) × IfSome input (λ text. bytes ≡ text) × (length bytes ≤ most_bytes)
-    × HasRead bytes (BadScript line reason) due)
-HasInput input _ due = ⊥
+    ⊎ ((bytes : List ℕ) × IsWithin input bytes × HasBadText bytes (BadScript line reason) due)
+HasBadInput input _ due = ⊥
+
+-- the text due to it: the report of its script, or the line of its fault
+abbrev pub HasInput : Runs → Option (List ℕ) → Status → List ℕ → Type 0
+HasInput Ran input (BadScript line reason) due = HasBadInput input (BadScript line reason) due
+HasInput Ran input status due = (setting : Setting) × (phases : List Phase) × HasScript input setting phases
+    × HasReport Ran setting phases status due
 
 -- of words that are no command
 abbrev pub HasUsage : Status → List ℕ → Type 0
@@ -114,13 +128,25 @@ HasUsage _ due = ⊥
 -- the text due to `pfs_plain`: that of its one command, or the usage line
 abbrev pub HasPlain : List (String Global) → Option (List ℕ) → Status → List ℕ → Type 0
 HasPlain words input Usage due = (¬ AsksPlain words) × HasUsage Usage due
-HasPlain words input status due = AsksPlain words × HasInput input status due
+HasPlain words input status due = AsksPlain words × HasInput IsPlainCountedRun input status due
 
--- the text due to `pfs`: that of each command, or the usage line
-abbrev pub Has : List (String Global) → Option (List ℕ) → Status → List ℕ → Type 0
-Has words input Usage due = (¬ IsCommand words) × HasUsage Usage due
-Has words input status due = (AsksScript words × HasInput input status due)
+-- the text due to `pfs`, where it hands this store on: that of each command, or the usage line
+abbrev pub Has : Option Seats → List (String Global) → Option (List ℕ) → Status → List ℕ → Type 0
+Has store words input Usage due = (¬ IsCommand words) × HasUsage Usage due
+Has store words input status due = (AsksRun words × HasInput (RunOn store) input status due)
+    ⊎ (AsksPlain words × HasInput IsPlainCountedRun input status due)
     ⊎ ((number : ℕ) × AsksLoad words number × HasLoad number status due)
+
+-- a run hands its store on where it is done
+abbrev pub store_at : Status → Seats → Option Seats
+store_at Done store = Some store
+store_at status store = None
+
+-- the store is there where a run was asked for and done, and nowhere else
+abbrev pub HasStore : Type 0 → Status → Option Seats → Type 0
+HasStore Asked Done (Some store) = Asked
+HasStore Asked Done None = ¬ Asked
+HasStore Asked status store = store ≡ None
 
 -- a front of the text of some status was written
 abbrev pub ToldPart : (Status → List ℕ → Type 0) → Option (List ℕ) → Option (List ℕ) → Type 0
@@ -133,6 +159,14 @@ Tells HasText before after WriteRose ReadFault = ⊥
 Tells HasText before after WriteRose WriteFault = WriteRose × ToldPart HasText before after
 Tells HasText before after WriteRose NoMemory = (after ≡ before) ⊎ ToldPart HasText before after
 Tells HasText before after WriteRose status = (due : List ℕ) × HasText status due × Added before after due
+
+-- so it is of a report that was offered
+abbrev pub Writes : ReportParts → Option (List ℕ) → Option (List ℕ) → Type 0 → Status → Type 0
+Writes report before after WriteRose Done = IsReport report × FitsReport report × Added before after (spelling report)
+Writes report before after WriteRose WriteFault =
+    WriteRose × IsReport report × AddedPart before after (spelling report)
+Writes report before after WriteRose NoMemory = IsReport report × AddedPart before after (spelling report)
+Writes report before after WriteRose status = ⊥
 
 -- how a call ends: a script was asked for, a read failed and nothing was written; or a status was told
 abbrev pub Ends : Type 0 → (Status → List ℕ → Type 0) → Option (List ℕ) → Option (List ℕ) → Type 0 → Type 0 → Status

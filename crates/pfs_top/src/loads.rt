@@ -11,14 +11,17 @@ ghost use Rattle.pfs_top.specs.Loads.{is_named, is_summary, last_tables, done_li
 ghost use Rattle.pfs_top.specs.Commands.{HasLoad, HasSummaries, Tells};
 
 use crate::NoMemory;
-use crate::runs::run_script;
+use crate::runs::run_at_once;
 use crate::statuses::{Status, status_after};
 use pfs_gen::script_of;
 use pfs_journal::{Report, TableReport, write_table};
 use pfs_outside::{Sink, WriteStop, write_all};
 use pfs_rows::{SummaryTable, Table, TableKind};
 use pfs_script::{Script, ScriptFault};
+use pfs_threads::Gate;
 use std::alloc::Global;
+use std::sync::Wait;
+use std::thread::Threads;
 
 /// The summaries that a load shows: those by event name over all sessions, of each kind, and that by digest.
 const SUMMARIES: [Table; 5] = [
@@ -105,29 +108,41 @@ fn generated(alloc: Global, number: u64) -> Result<Script, NoMemory>
     }
 }
 
-/// Runs a script, and writes the summaries of its last phase.
-fn show_summaries<K: Sink>(alloc: Global, script: &Script, sink: &mut K) -> Status
+/// Runs a script, the sessions of a phase at once, and writes the summaries of its last phase.
+fn show_summaries<R: Threads + Wait + Sync, G: Gate, K: Sink>(
+    rt: &R,
+    gate: &G,
+    alloc: Global,
+    script: &Script,
+    sink: &mut K,
+) -> Status
     requires { (text : List ℕ) × IsScript text script.now.setting script.now.phases }
     ensures { Tells (HasSummaries script.now.setting script.now.phases) (K.written sink.old) (K.written sink.new)
         (Rose (K.faults sink.old) (K.faults sink.new)) result }
 {
-    match run_script(alloc, script) {
-        Ok(report) => {
+    match run_at_once(rt, gate, alloc, script) {
+        Ok(recorded) => {
             // A report's parts tell that they can be spelled.
-            let _ = report.parts();
-            status_after(put_load(alloc, &report, sink), Status::Done)
+            let _ = recorded.report.parts();
+            status_after(put_load(alloc, &recorded.report, sink), Status::Done)
         }
         Err(_) => Status::NoMemory,
     }
 }
 
-/// Runs the script of a number, and writes the summaries of its last phase.
-pub fn load<K: Sink>(alloc: Global, number: u64, sink: &mut K) -> Status
+/// Runs the script of a number, the sessions of a phase at once, and writes the summaries of its last phase.
+pub fn load<R: Threads + Wait + Sync, G: Gate, K: Sink>(
+    rt: &R,
+    gate: &G,
+    alloc: Global,
+    number: u64,
+    sink: &mut K,
+) -> Status
     ensures { Tells (HasLoad number) (K.written sink.old) (K.written sink.new)
         (Rose (K.faults sink.old) (K.faults sink.new)) result }
 {
     match generated(alloc, number) {
-        Ok(script) => show_summaries(alloc, &script, sink),
+        Ok(script) => show_summaries(rt, gate, alloc, &script, sink),
         Err(_) => Status::NoMemory,
     }
 }

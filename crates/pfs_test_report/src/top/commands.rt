@@ -1,10 +1,10 @@
 //! Which words are a command, and what `plain` and `load` do.
 
-use super::{ONE_WAIT, ONE_WAIT_REPORT, words};
+use super::{ONE_WAIT, ONE_WAIT_REPORT, called, words};
 use crate::asserts::same;
 use pfs_outside::{MemorySink, MemorySource};
 use pfs_script::Reason;
-use pfs_top::{Status, pfs, pfs_plain};
+use pfs_top::{Status, pfs_plain};
 use std::alloc::{AllocError, Global};
 use std::test::Fail;
 
@@ -17,20 +17,6 @@ const SUMMARIES_OF_0: &[u8] =
 /// What `load 18446744073709551615` writes before its last line.
 const SUMMARIES_OF_THE_LAST: &[u8] =
     b"table events_waits_summary_global_by_event_name\nrow 'wait/io/file/sql/binlog' 1346 666079 0 494 999\nrow 'wait/io/file/innodb/innodb_data_file' 1296 646807 0 499 999\nrow 'wait/io/file/innodb/innodb_log_file' 1358 682403 0 502 998\ntable events_statements_summary_global_by_event_name\nrow 'statement/sql/select' 988 984805 43 996 1941 0 0 0 0 0 0\nrow 'statement/sql/insert' 968 966685 22 998 1952 0 0 0 0 0 0\nrow 'statement/sql/update' 1014 1008342 46 994 1982 0 0 0 0 0 0\nrow 'statement/sql/delete' 1030 1048506 27 1017 1996 0 0 0 0 0 0\ntable events_statements_summary_by_digest\nrow NULL '03762375efaba41df3a4aeda78f73ced90bc955293dc2752a445d407330716d9' 'SELECT * FROM `orders` WHERE `id` = ?' 988 984805 43 996 1941 0 0 0 0 0 0\nrow NULL 'df7be164e3c3d8c327f1009c0de2dfe67a2c0a4a2f5e43a1971ad06a368e0a5f' 'INSERT INTO `orders` VALUES (...)' 968 966685 22 998 1952 0 0 0 0 0 0\nrow NULL '8fdc54fd898381afd8f828552a714350ebcc4ec95e87fe44ee63fcbaf2a0f214' 'UPDATE `orders` SET `quantity` = ? WHERE `id` = ?' 1014 1008342 46 994 1982 0 0 0 0 0 0\nrow NULL '8303fb72320f6bd02c130fe3d3593dbae2e8f198bc62303324916879c562378c' 'DELETE FROM `orders` WHERE `id` IN (...)' 1030 1048506 27 1017 1996 0 0 0 0 0 0\n";
-
-/// The status and the text of `pfs` on these words.
-fn called(
-    alloc: Global,
-    case: &[&str],
-    source: &mut MemorySource,
-    room: u64,
-    write_fails: &[u64],
-) -> Result<(Status, MemorySink), AllocError> {
-    let words = words(alloc, case)?;
-    let mut sink = MemorySink::new(alloc, room, write_fails)?;
-    let status = pfs(alloc, &words, source, &mut sink);
-    Ok((status, sink))
-}
 
 /// The status and the text of `pfs_plain` on these words.
 fn called_plain(
@@ -70,7 +56,7 @@ fn plain_writes_what_run_writes(rt: HostRuntime) -> Result<(), Fail> {
     for (script, want, text) in &SCRIPTS {
         for word in ["run", "plain"] {
             let mut source = MemorySource::new(rt.alloc(), script, &[])?;
-            let (status, sink) = called(rt.alloc(), &[word], &mut source, 4_000, &[])?;
+            let (status, sink) = called(&rt, rt.alloc(), &[word], &mut source, 4_000, &[])?;
             same(&rt, word, status, *want);
             same(&rt, word, sink.bytes(), *text);
         }
@@ -98,7 +84,7 @@ const FAILURES: [(u64, &[u64], &[u64], Status, &[u8]); 3] = [
 fn failures_end_plain_as_they_end_run(rt: HostRuntime) -> Result<(), Fail> {
     for (room, read_fails, write_fails, want, text) in &FAILURES {
         let mut source = MemorySource::new(rt.alloc(), ONE_WAIT, read_fails)?;
-        let (status, sink) = called(rt.alloc(), &["plain"], &mut source, *room, write_fails)?;
+        let (status, sink) = called(&rt, rt.alloc(), &["plain"], &mut source, *room, write_fails)?;
         same(&rt, "plain", status, *want);
         same(&rt, "plain", sink.bytes(), *text);
         let mut source = MemorySource::new(rt.alloc(), ONE_WAIT, read_fails)?;
@@ -154,7 +140,7 @@ const NO_COMMANDS: [&[&str]; 17] = [
 fn other_words_get_the_usage_line(rt: HostRuntime) -> Result<(), Fail> {
     for case in &NO_COMMANDS {
         let mut source = MemorySource::new(rt.alloc(), ONE_WAIT, &[])?;
-        let (status, sink) = called(rt.alloc(), case, &mut source, 100, &[])?;
+        let (status, sink) = called(&rt, rt.alloc(), case, &mut source, 100, &[])?;
         same(&rt, "status", status, Status::Usage);
         same(&rt, "text", sink.bytes(), USAGE);
         same(&rt, "unread", is_unread(rt.alloc(), &mut source)?, true);
@@ -165,7 +151,7 @@ fn other_words_get_the_usage_line(rt: HostRuntime) -> Result<(), Fail> {
 #[test]
 fn a_usage_line_that_is_not_taken_is_a_fault(rt: HostRuntime) -> Result<(), Fail> {
     let mut source = MemorySource::new(rt.alloc(), ONE_WAIT, &[])?;
-    let (status, sink) = called(rt.alloc(), &["run", "now"], &mut source, 10, &[])?;
+    let (status, sink) = called(&rt, rt.alloc(), &["run", "now"], &mut source, 10, &[])?;
     same(&rt, "status", status, Status::WriteFault);
     same(&rt, "text", sink.bytes(), b"usage: run".as_slice());
     let (status, sink) = called_plain(rt.alloc(), &["run"], &mut source, 10, &[])?;
@@ -185,7 +171,7 @@ const LOADS: [(&str, &[u8]); 3] = [
 fn a_load_writes_its_last_summaries(rt: HostRuntime) -> Result<(), Fail> {
     for (number, summaries) in &LOADS {
         let mut source = MemorySource::new(rt.alloc(), ONE_WAIT, &[])?;
-        let (status, sink) = called(rt.alloc(), &["load", number], &mut source, 4_000, &[])?;
+        let (status, sink) = called(&rt, rt.alloc(), &["load", number], &mut source, 4_000, &[])?;
         let mut text = Vec::from_slice(rt.alloc(), summaries)?;
         text.extend_from_slice(b"done\n")?;
         same(&rt, "status", status, Status::Done);
@@ -211,7 +197,14 @@ const CUT_OFF: [(u64, &[u64], &[u8]); 4] = [
 fn a_load_that_is_not_taken_leaves_a_front(rt: HostRuntime) -> Result<(), Fail> {
     for (room, write_fails, text) in &CUT_OFF {
         let mut source = MemorySource::new(rt.alloc(), b"", &[])?;
-        let (status, sink) = called(rt.alloc(), &["load", "0"], &mut source, *room, write_fails)?;
+        let (status, sink) = called(
+            &rt,
+            rt.alloc(),
+            &["load", "0"],
+            &mut source,
+            *room,
+            write_fails,
+        )?;
         same(&rt, "status", status, Status::WriteFault);
         same(&rt, "text", sink.bytes(), *text);
     }

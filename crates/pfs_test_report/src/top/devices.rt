@@ -23,7 +23,7 @@ fn has_lines(text: &[u8], count: usize) -> bool {
 #[test]
 fn a_read_that_fails_leaves_nothing_written(rt: HostRuntime) -> Result<(), Fail> {
     for at in [1, 2] {
-        let (status, sink) = ran(rt.alloc(), ONE_WAIT, 4_000, &[at], &[])?;
+        let (status, sink) = ran(&rt, rt.alloc(), ONE_WAIT, 4_000, &[at], &[])?;
         same(&rt, "status", status, Status::ReadFault);
         same(&rt, "text", sink.bytes(), b"".as_slice());
     }
@@ -34,11 +34,11 @@ fn a_read_that_fails_leaves_nothing_written(rt: HostRuntime) -> Result<(), Fail>
 fn a_write_that_fails_leaves_the_lines_before_it(rt: HostRuntime) -> Result<(), Fail> {
     for before in 0..32usize {
         let at = before as u64 + 1;
-        let (status, sink) = ran(rt.alloc(), ONE_WAIT, 4_000, &[], &[at])?;
+        let (status, sink) = ran(&rt, rt.alloc(), ONE_WAIT, 4_000, &[], &[at])?;
         same(&rt, "status", status, Status::WriteFault);
         same(&rt, "lines", has_lines(sink.bytes(), before), true);
     }
-    let (status, sink) = ran(rt.alloc(), ONE_WAIT, 4_000, &[], &[33])?;
+    let (status, sink) = ran(&rt, rt.alloc(), ONE_WAIT, 4_000, &[], &[33])?;
     same(&rt, "status", status, Status::Done);
     same(&rt, "text", sink.bytes(), ONE_WAIT_REPORT);
     Ok(())
@@ -50,8 +50,8 @@ fn devices_that_move_one_byte_a_call_give_the_same_report(rt: HostRuntime) -> Re
         let words = words(rt.alloc(), &[word])?;
         let mut source = ShortSource::new(rt.alloc(), ONE_WAIT, 1, &[])?;
         let mut sink = ShortSink::new(rt.alloc(), 4_000, 1, &[])?;
-        let status = pfs(rt.alloc(), &words, &mut source, &mut sink);
-        same(&rt, word, status, Status::Done);
+        let end = pfs(&rt, rt.alloc(), &words, &mut source, &mut sink);
+        same(&rt, word, end.status, Status::Done);
         same(&rt, word, sink.bytes(), ONE_WAIT_REPORT);
     }
     Ok(())
@@ -60,7 +60,7 @@ fn devices_that_move_one_byte_a_call_give_the_same_report(rt: HostRuntime) -> Re
 #[test]
 fn a_script_with_a_byte_of_no_text_is_refused(rt: HostRuntime) -> Result<(), Fail> {
     let script: &[u8] = b"phase\nsession 1 u h\nstart wait/io/file/sql/binlog\n\0spend 120\nend\n";
-    let (status, sink) = ran(rt.alloc(), script, 4_000, &[], &[])?;
+    let (status, sink) = ran(&rt, rt.alloc(), script, 4_000, &[], &[])?;
     let byte = Status::BadScript {
         line: 4,
         reason: Reason::BadByte,
@@ -98,7 +98,7 @@ fn room_is_taken_for_what_stands_there_alone(rt: HostRuntime) -> Result<(), Fail
     same(&rt, "rows", stop, Some(ReadStop::Bad { at: 6 }));
     let script: &[u8] =
         b"phase\nsession 1 u h\nsql SELECT * FROM threads LIMIT 18446744073709551615\nrepeat 18446744073709551615\ndone\n";
-    let (status, _) = ran(rt.alloc(), script, 4_000, &[], &[])?;
+    let (status, _) = ran(&rt, rt.alloc(), script, 4_000, &[], &[])?;
     same(&rt, "limit", status, Status::Done);
     Ok(())
 }

@@ -1,6 +1,6 @@
 //! Reports of the current places, the histories and the long history, and of what frees them.
 
-use super::{report_of_one, reports};
+use super::{report_of_one, reports, reports_by};
 use std::alloc::{AllocError, Global};
 use std::test::Fail;
 
@@ -23,7 +23,7 @@ const TAKEN: [(&[u8], &[u8], &[u8]); 2] = [
 fn events_go_into_the_rings_that_take_them(rt: HostRuntime) -> Result<(), Fail> {
     for (script, entries, rest) in &TAKEN {
         let report = report_of_one(rt.alloc(), entries, rest)?;
-        assert!(rt; reports(rt.alloc(), script, &report)?);
+        assert!(rt; reports(&rt, rt.alloc(), script, &report)?);
     }
     Ok(())
 }
@@ -47,19 +47,21 @@ const LAST_TEN: [(&[u8], &[u8], &[u8]); 2] = [
 fn a_history_keeps_the_last_ten(rt: HostRuntime) -> Result<(), Fail> {
     for (script, entries, rest) in &LAST_TEN {
         let report = report_of_one(rt.alloc(), entries, rest)?;
-        assert!(rt; reports(rt.alloc(), script, &report)?);
+        assert!(rt; reports(&rt, rt.alloc(), script, &report)?);
     }
     Ok(())
 }
 
-const FREED: [(&[u8], &[u8]); 2] = [
+const FREED: [(&str, &[u8], &[u8]); 2] = [
     // The second session gets the first one's slot, with a history of its own.
     (
+        "run",
         b"phase\nsession 1 u h\nstart transaction rw\nstart statement/sql/insert\nspend 4\nend\nend\nquit\nphase\nsession 2 v g\nstart statement/sql/insert\nspend 6\nend\nstart transaction ro\nspend 1\n",
         b"pfs-report 1\nphase 1\nsession 1\nconnect 1 0 0 0 0\ntag 1 1\ntag 33 1\ntag 65 1\ntag 97 1\nset 1 1 3\nstart 1 attributed 0 1 0 -\nring 8465 1\nstart 2 attributed 0 1 0 -\nring 8455 1\nend 2 2 0 1\nadd 147 1\nadd 8386 1\nring 8455 2\nring 8486 1\nend 1 2 0 1\nadd 191 1\nring 8465 2\nring 8496 1\nact 2\ntake 129 1\ntake 130 1\ntake 131 1\ntake 132 1\ntake 133 1\ntake 134 1\ntake 135 1\ntake 136 1\ntake 137 1\ntake 138 1\ntake 139 1\ntake 140 1\ntake 141 1\ntake 142 1\ntake 143 1\ntake 144 1\ntake 145 1\ntake 146 1\ntake 147 2\ngive 2195 1 147\ntake 148 1\ntake 149 1\ntake 150 1\ntake 151 1\ntake 152 1\ntake 191 2\ngive 2239 1 191\ntake 192 1\nfree 1 1\ntag 33 2\ntag 65 2\ntag 97 2\nfree 8450 0\nfree 8451 0\nfree 8452 0\nfree 8453 0\nfree 8454 0\nfree 8455 2\nfree 8456 0\nfree 8457 0\nfree 8458 0\nfree 8459 0\nfree 8460 0\nfree 8461 0\nfree 8462 0\nfree 8463 0\nfree 8464 0\nfree 8465 2\nfree 8466 0\nfree 8467 0\nfree 8468 0\nfree 8469 0\nfree 8470 0\nfree 8471 0\nfree 8472 0\nfree 8473 0\nfree 8474 0\nfree 8475 0\nfree 8476 0\nfree 8477 0\nfree 8478 0\nfree 8479 0\nfree 8480 0\nfree 8481 0\nfree 8482 0\nfree 8483 0\nfree 8484 0\nfree 8485 0\nfree 8486 1\nfree 8487 0\nfree 8488 0\nfree 8489 0\nfree 8490 0\nfree 8491 0\nfree 8492 0\nfree 8493 0\nfree 8494 0\nfree 8495 0\nfree 8496 1\nfree 8497 0\nfree 8498 0\nfree 8499 0\nfree 8500 0\nfree 8501 0\nfree 8502 0\nfree 8503 0\nfree 8504 0\nfree 8505 0\nset 1 2 0\nfinal\ntable accounts\nrow 'u' 'h' 0 1\ntable users\nrow 'u' 0 1\ntable hosts\nrow 'h' 0 1\ntable events_statements_summary_by_account_by_event_name\nrow 'u' 'h' 'statement/sql/insert' 1 4 4 4 4 0 0 0 0 0 0\ntable events_statements_summary_by_user_by_event_name\nrow 'u' 'statement/sql/insert' 1 4 4 4 4 0 0 0 0 0 0\ntable events_statements_summary_by_host_by_event_name\nrow 'h' 'statement/sql/insert' 1 4 4 4 4 0 0 0 0 0 0\ntable events_statements_summary_global_by_event_name\nrow 'statement/sql/insert' 1 4 4 4 4 0 0 0 0 0 0\ntable events_transactions_summary_by_account_by_event_name\nrow 'u' 'h' 'transaction' 1 4 4 4 4 1 4 4 4 4 0 0 0 0 0\ntable events_transactions_summary_by_user_by_event_name\nrow 'u' 'transaction' 1 4 4 4 4 1 4 4 4 4 0 0 0 0 0\ntable events_transactions_summary_by_host_by_event_name\nrow 'h' 'transaction' 1 4 4 4 4 1 4 4 4 4 0 0 0 0 0\ntable events_transactions_summary_global_by_event_name\nrow 'transaction' 1 4 4 4 4 1 4 4 4 4 0 0 0 0 0\ntable events_statements_summary_by_digest\nrow NULL 'e3b0c44298fc1c149afbf4c8996fb92427ae41e4649b934ca495991b7852b855' '' 1 4 4 4 4 0 0 0 0 0 0\nphase 2\nsession 2\nconnect 3 0 1 1 1\ntag 1 2\ntag 34 1\ntag 66 1\ntag 98 1\nset 1 3 3\nstart 1 attributed 0 3 0 -\nring 8455 3\nend 1 1 0 3\nadd 147 3\nadd 8386 2\nring 8455 4\nring 8486 2\nstart 2 attributed 0 3 0 -\nring 8465 3\nfinal\ntable threads\nrow 2 'v' 'g' 'YES' 'YES'\ntable accounts\nrow 'u' 'h' 0 1\nrow 'v' 'g' 1 1\ntable users\nrow 'u' 0 1\nrow 'v' 1 1\ntable hosts\nrow 'g' 1 1\nrow 'h' 0 1\ntable events_statements_current\nrow 2 1 1 'statement/sql/insert' 0 6 6 NULL NULL 0 0 0 0 0 0 'e3b0c44298fc1c149afbf4c8996fb92427ae41e4649b934ca495991b7852b855'\ntable events_statements_history\nrow 2 1 1 'statement/sql/insert' 0 6 6 NULL NULL 0 0 0 0 0 0 'e3b0c44298fc1c149afbf4c8996fb92427ae41e4649b934ca495991b7852b855'\ntable events_transactions_current\nrow 2 2 NULL 'transaction' 6 NULL NULL NULL NULL 'READ ONLY'\ntable events_statements_summary_by_thread_by_event_name\nrow 2 'statement/sql/insert' 1 6 6 6 6 0 0 0 0 0 0\ntable events_statements_summary_by_account_by_event_name\nrow 'u' 'h' 'statement/sql/insert' 1 4 4 4 4 0 0 0 0 0 0\nrow 'v' 'g' 'statement/sql/insert' 1 6 6 6 6 0 0 0 0 0 0\ntable events_statements_summary_by_user_by_event_name\nrow 'u' 'statement/sql/insert' 1 4 4 4 4 0 0 0 0 0 0\nrow 'v' 'statement/sql/insert' 1 6 6 6 6 0 0 0 0 0 0\ntable events_statements_summary_by_host_by_event_name\nrow 'g' 'statement/sql/insert' 1 6 6 6 6 0 0 0 0 0 0\nrow 'h' 'statement/sql/insert' 1 4 4 4 4 0 0 0 0 0 0\ntable events_statements_summary_global_by_event_name\nrow 'statement/sql/insert' 2 10 4 5 6 0 0 0 0 0 0\ntable events_transactions_summary_by_account_by_event_name\nrow 'u' 'h' 'transaction' 1 4 4 4 4 1 4 4 4 4 0 0 0 0 0\ntable events_transactions_summary_by_user_by_event_name\nrow 'u' 'transaction' 1 4 4 4 4 1 4 4 4 4 0 0 0 0 0\ntable events_transactions_summary_by_host_by_event_name\nrow 'h' 'transaction' 1 4 4 4 4 1 4 4 4 4 0 0 0 0 0\ntable events_transactions_summary_global_by_event_name\nrow 'transaction' 1 4 4 4 4 1 4 4 4 4 0 0 0 0 0\ntable events_statements_summary_by_digest\nrow NULL 'e3b0c44298fc1c149afbf4c8996fb92427ae41e4649b934ca495991b7852b855' '' 2 10 4 5 6 0 0 0 0 0 0\nend\n",
     ),
     // All live threads' places are freed, whose session ever asks; the statements stay.
     (
+        "plain",
         b"consumer events_stages_current YES\nphase\nsession 1 u h\nstart statement/sp/stmt\nstage stage/sql/init\nsession 2 v g\nstart statement/sp/stmt\nstage stage/sql/end\nsql TRUNCATE events_stages_current\nsql TRUNCATE events_waits_current\n",
         b"pfs-report 1\nphase 1\nsession 1\nconnect 1 0 0 0 0\ntag 1 1\ntag 33 1\ntag 65 1\ntag 97 1\nset 1 1 3\nstart 1 attributed 0 1 0 -\nring 8455 1\nstart 2 attributed 0 1 0 -\nring 8454 1\nsession 2\nconnect 2 1 1 1 1\ntag 2 1\ntag 34 1\ntag 66 1\ntag 98 1\nset 2 1 3\nstart 1 attributed 0 1 0 -\nring 8511 1\nstart 2 attributed 0 1 0 -\nring 8510 1\nact 3\nfree 8454 1\nfree 8510 1\nreply 0\nact 4\nfree 8450 0\nfree 8451 0\nfree 8452 0\nfree 8453 0\nfree 8506 0\nfree 8507 0\nfree 8508 0\nfree 8509 0\nreply 0\nfinal\ntable threads\nrow 1 'u' 'h' 'YES' 'YES'\nrow 2 'v' 'g' 'YES' 'YES'\ntable accounts\nrow 'u' 'h' 1 1\nrow 'v' 'g' 1 1\ntable users\nrow 'u' 1 1\nrow 'v' 1 1\ntable hosts\nrow 'g' 1 1\nrow 'h' 1 1\ntable events_statements_current\nrow 1 1 NULL 'statement/sp/stmt' 0 NULL NULL NULL NULL 0 0 0 0 0 0 'e3b0c44298fc1c149afbf4c8996fb92427ae41e4649b934ca495991b7852b855'\nrow 2 1 NULL 'statement/sp/stmt' 0 NULL NULL NULL NULL 0 0 0 0 0 0 'e3b0c44298fc1c149afbf4c8996fb92427ae41e4649b934ca495991b7852b855'\nend\n",
     ),
@@ -67,8 +69,8 @@ const FREED: [(&[u8], &[u8]); 2] = [
 
 #[test]
 fn places_are_freed_with_their_threads(rt: HostRuntime) -> Result<(), Fail> {
-    for (script, report) in &FREED {
-        assert!(rt; reports(rt.alloc(), script, report)?);
+    for (word, script, report) in &FREED {
+        assert!(rt; reports_by(&rt, rt.alloc(), word, script, report)?);
     }
     Ok(())
 }
@@ -100,6 +102,6 @@ fn the_long_history_outlives_its_threads(rt: HostRuntime) -> Result<(), Fail> {
     let mut report = Vec::from_slice(rt.alloc(), BEFORE_FREED)?;
     report.extend_from_slice(freed_places(rt.alloc())?.as_bytes())?;
     report.extend_from_slice(BEHIND_FREED)?;
-    assert!(rt; reports(rt.alloc(), LONG_HISTORY, &report)?);
+    assert!(rt; reports_by(&rt, rt.alloc(), "plain", LONG_HISTORY, &report)?);
     Ok(())
 }

@@ -12,5 +12,5 @@ returns-in-Ok g c =
     let written = g.K.Sink.written in
     let faults = g.K.Sink.faults in
     let P = HasSummaries c.args.script.now.setting c.args.script.now.phases in
-    let t = told P (written c.args.sink.now) (written c.put_load.new.sink) (faults c.args.sink.now) (faults c.put_load.new.sink) (load_text c.in-Ok.report) Done c.put_load.result tt (c.in-Ok.report, c.parts.ensures.good, c.in-Ok.ensures, refl) c.put_load.ensures in
+    let t = told P (written c.args.sink.now) (written c.put_load.new.sink) (faults c.args.sink.now) (faults c.put_load.new.sink) (load_text c.in-Ok.recorded.report) Done c.put_load.result tt (c.in-Ok.recorded.report, c.parts.ensures.good, c.in-Ok.ensures.0, refl) c.put_load.ensures in
     subst (λ (s : Status). Tells P (written c.args.sink.now) (written c.put_load.new.sink) (Rose (faults c.args.sink.now) (faults c.put_load.new.sink)) s) (sym c.status_after.ensures) t

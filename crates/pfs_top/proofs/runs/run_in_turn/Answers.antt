@@ -2,7 +2,7 @@ use Rattle.std.proofs.Common.{List, subst}
 use Rattle.std.proofs.lemmas.Result.{IfOk-weaker}
 use Rattle.pfs_runs.specs.Runs.{IsPlainRun}
 use Rattle.pfs_script.specs.declared.blocks.Phase.{Phase}
-use Rattle.pfs_top.proofs.runs.run_script.Goals as goal
+use Rattle.pfs_top.proofs.runs.run_in_turn.Goals as goal
 
 pub returns : goal.returns
 returns c =

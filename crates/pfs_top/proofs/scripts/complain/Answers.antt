@@ -4,7 +4,7 @@ use Rattle.pfs_top.specs.declared.statuses.Status.{Status}
 use Rattle.pfs_top.specs.declared.statuses.Status.TheVariants.{BadScript}
 use Rattle.pfs_top.specs.Commands.{HasFault, Tells}
 use Rattle.pfs_top.proofs.Outcomes.{told}
-use Rattle.pfs_top.proofs.runs.complain.Goals as goal
+use Rattle.pfs_top.proofs.scripts.complain.Goals as goal
 
 pub returns-in-Ok : goal.returns-in-Ok
 returns-in-Ok g c =
