@@ -1,0 +1,4 @@
+mod EventLines
+mod LineTags
+mod LineWalks
+mod SessionWalks

@@ -1,0 +1,2 @@
+mod EventSums
+mod DiscardedSums
