@@ -1,0 +1,3 @@
+mod ListedBlocks
+mod StandingNumbers
+mod WrittenSteps

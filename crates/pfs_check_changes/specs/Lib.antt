@@ -1,0 +1,2 @@
+pub mod ActionNumbers
+pub mod WrittenActions

@@ -1,0 +1,2 @@
+pub mod ActionOrders
+pub mod Replays

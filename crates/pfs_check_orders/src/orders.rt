@@ -1,0 +1,26 @@
+//! What is kept of each action.
+
+use pfs_admin::{Placed, Reply};
+use pfs_event::Log;
+
+/// What is kept of an action.
+#[derive(Clone, Copy, Debug, PartialEq, Eq)]
+pub struct Order {
+    /// Where all that it may ask for begins among the entries of all actions.
+    pub start: usize,
+    /// Where it ends there.
+    pub end: usize,
+    /// The places that a connect got; none of another action.
+    pub placed: Placed,
+    /// What it is answered; no rows where it has no answer.
+    pub reply: Reply,
+}
+
+/// What is kept of all actions.
+#[derive(Drop)]
+pub struct Orders {
+    /// All that they may ask for, one action after another.
+    pub entries: Log,
+    /// By their numbers, from 1 on.
+    pub orders: Vec<Order>,
+}
