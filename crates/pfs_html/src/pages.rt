@@ -114,11 +114,17 @@ fn put_opening<K: Sink>(sink: &mut K) -> Result<(), WriteStop>
 }
 
 impl Rendering for Page {
-    ghost text = { λ page report. page_html report };
+    ghost text = { λ page script report. page_html report };
 
-    /// Writes the page phase by phase. On a refusal a front of it was written.
+    /// Writes the page phase by phase, whatever the script. On a refusal a front of it was written.
     #[tactic(auto, using(pfs_outside::proofs::SinkWrites::puts_then, pfs_outside::proofs::SinkWrites::puts_stop), unfolding(crate::specs::Pages::page_html))]
-    fn put<K: Sink>(&self, alloc: Global, report: &Report, sink: &mut K) -> Result<(), WriteStop> {
+    fn put<K: Sink>(
+        &self,
+        alloc: Global,
+        _script: &[u8],
+        report: &Report,
+        sink: &mut K,
+    ) -> Result<(), WriteStop> {
         let mut pen = Pen {
             page: Vec::new(alloc),
             cell: Vec::new(alloc),

@@ -47,7 +47,7 @@ tells_as P Q before after W NoMemory f (inl e) = inl e
 tells_as P Q before after W NoMemory f (inr p) = inr (part_as P Q before after f p)
 
 -- a call that told a status ended
-pub ends_told : (shown : ReportParts → List ℕ) (count : ℕ) (input before after : Option (List ℕ)) (R W : Type 0) (status : Status) → Tells (HasInput shown count input) before after W status → Ends shown count input before after R W status
+pub ends_told : (shown : List ℕ → ReportParts → List ℕ) (count : ℕ) (input before after : Option (List ℕ)) (R W : Type 0) (status : Status) → Tells (HasInput shown count input) before after W status → Ends shown count input before after R W status
 ends_told shown count input before after R W Done t = t
 ends_told shown count input before after R W (BadReport at) t = t
 ends_told shown count input before after R W (BadScript line reason) t = t
@@ -57,5 +57,5 @@ ends_told shown count input before after R W WriteFault t = t
 ends_told shown count input before after R W NoMemory t = t
 
 -- the text of the bytes that came is that of the source
-pub input_viewed : (shown : ReportParts → List ℕ) (count : ℕ) (input : Option (List ℕ)) (bytes : List ℕ) → IfSome input (λ text. bytes ≡ text) → length bytes ≤ most_bytes → (status : Status) (due : List ℕ) → HasView shown (take count bytes) (drop count bytes) status due → HasInput shown count input status due
+pub input_viewed : (shown : List ℕ → ReportParts → List ℕ) (count : ℕ) (input : Option (List ℕ)) (bytes : List ℕ) → IfSome input (λ text. bytes ≡ text) → length bytes ≤ most_bytes → (status : Status) (due : List ℕ) → HasView shown (take count bytes) (drop count bytes) status due → HasInput shown count input status due
 input_viewed shown count input bytes came short status due h = (bytes, came, short, h)

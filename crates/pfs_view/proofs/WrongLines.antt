@@ -7,7 +7,7 @@ use Rattle.pfs_view.specs.Views.{HasView, IsExplained, IsRefusedAt, IsWrongAt, w
 use Rattle.pfs_view.specs.declared.viewing.Status.{Status}
 use Rattle.pfs_view.specs.declared.viewing.Status.TheVariants.{Done, BadReport, BadScript, TooLong, ReadFault, WriteFault, NoMemory}
 
-pub refused_viewed : (shown : ReportParts → List ℕ) (script bytes : List ℕ) (at : ℕ) → IsFirstWrong bytes at → (status : Status) (due : List ℕ) → IsRefusedAt script bytes at status due → HasView shown script bytes status due
+pub refused_viewed : (shown : List ℕ → ReportParts → List ℕ) (script bytes : List ℕ) (at : ℕ) → IsFirstWrong bytes at → (status : Status) (due : List ℕ) → IsRefusedAt script bytes at status due → HasView shown script bytes status due
 refused_viewed shown script bytes at wrong Done due h = absurd h
 refused_viewed shown script bytes at wrong (BadReport n) due h = (subst (IsFirstWrong bytes) (sym h.0) wrong, h.1 ∙ ap wrong_line (sym h.0), h.2)
 refused_viewed shown script bytes at wrong (BadScript line reason) due h = h

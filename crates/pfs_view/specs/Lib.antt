@@ -1,3 +1,5 @@
+pub mod Answers
+pub mod AskedTexts
 pub mod Cells
 pub mod ColumnHeadings
 pub mod Grids
@@ -5,6 +7,8 @@ pub mod NumberFronts
 pub mod Readings
 pub mod Refusals
 pub mod ScriptLines
+pub mod Scripts
 pub mod ShownReports
+pub mod TextOutcomes
 pub mod TimeTexts
 pub mod Views

@@ -38,8 +38,8 @@ IsRefusedAt script bytes at _ due = ⊥
 
 -- the text due of bytes: how the report that they are is shown, or what is told of a script by exactly the lines that
 -- tell of one, or of all others their first wrong line
-abbrev pub HasView : (ReportParts → List ℕ) → List ℕ → List ℕ → Status → List ℕ → Type 0
-HasView shown script bytes Done due = (report : ReportParts) × (bytes ≡ spelling report) × (due ≡ shown report)
+abbrev pub HasView : (List ℕ → ReportParts → List ℕ) → List ℕ → List ℕ → Status → List ℕ → Type 0
+HasView shown script bytes Done due = (report : ReportParts) × (bytes ≡ spelling report) × (due ≡ shown script report)
 HasView shown script bytes (BadReport at) due =
     IsFirstWrong bytes at × (due ≡ wrong_line at) × IsNoRefusal bytes
 HasView shown script bytes (BadScript line reason) due =
@@ -58,11 +58,11 @@ Tells HasText before after WriteRose NoMemory = (after ≡ before) ⊎ ToldPart 
 Tells HasText before after WriteRose status = (due : List ℕ) × HasText status due × Added before after due
 
 -- of a source with these bytes left, where it tells them: so many of a script come first, all where there are fewer
-abbrev pub HasInput : (ReportParts → List ℕ) → ℕ → Option (List ℕ) → Status → List ℕ → Type 0
+abbrev pub HasInput : (List ℕ → ReportParts → List ℕ) → ℕ → Option (List ℕ) → Status → List ℕ → Type 0
 HasInput shown count input status due = (bytes : List ℕ) × IfSome input (λ text. bytes ≡ text)
     × (length bytes ≤ most_bytes) × HasView shown (take count bytes) (drop count bytes) status due
 
-abbrev pub Ends : (ReportParts → List ℕ) → ℕ → Option (List ℕ) → Option (List ℕ) → Option (List ℕ) → Type 0 → Type 0 → Status → Type 0
+abbrev pub Ends : (List ℕ → ReportParts → List ℕ) → ℕ → Option (List ℕ) → Option (List ℕ) → Option (List ℕ) → Type 0 → Type 0 → Status → Type 0
 Ends shown count input before after ReadRose WriteRose ReadFault = ReadRose × (after ≡ before)
 Ends shown count input before after ReadRose WriteRose TooLong =
     IfSome input (λ text. most_bytes < length text) × (after ≡ before)

@@ -1,10 +1,13 @@
 //! What is shown, in a reader's words. Nothing here runs.
 
 ghost use Rattle.std.specs.Prelude.{ℕ, List, ◌≡◌, ◌<◌, ◌≤◌, [], length, max, slice_index, slice_index_or};
+ghost use Rattle.std.specs.List.{flat_map};
+ghost use Rattle.pfs_event.specs.declared.entry.Entry.{Entry};
 ghost use Rattle.pfs_text.specs.declared.values.RowValue.{RowValue};
 ghost use Rattle.pfs_view.specs.ColumnHeadings.{heading_text};
-ghost use Rattle.pfs_view.specs.Grids.{cell_text, column_total, heading_line, heading_width, most_width, row_line, widths_of};
+ghost use Rattle.pfs_view.specs.Grids.{cell_text, column_total, first_of, heading_line, heading_width, most_width, row_line, widths_of};
 ghost use Rattle.pfs_view.specs.Readings.{cell_in, cell_start, room, trimmed};
+ghost use Rattle.pfs_view.specs.TextOutcomes.{outcomes_of, place_shown, rows_total};
 ghost use Rattle.pfs_view.specs.declared.columns.Headings.{Headings};
 ghost use Rattle.pfs_view.specs.declared.columns.Times.{Times};
 
@@ -55,4 +58,11 @@ pub fn cells_stand_below()
         → ((k : ℕ) → k < place → length (cell_text headings times (slice_index_or rows at []) k) ≤ most_width)
         → cell_start (room headings times (widths_of headings times rows) (slice_index_or rows at [])) place
         ≡ cell_start (slice_index (widths_of headings times rows)) place }
+{}
+
+/// Each answer of rows is shown once, in order: of the texts that rows answered the first has the first answer, the
+/// second the second, and so on.
+pub fn answers_are_shown_once()
+    ensures { (entries : List Entry)
+        → flat_map place_shown (outcomes_of entries) ≡ first_of (λ (place : ℕ). place) (rows_total entries) }
 {}

@@ -1,6 +1,7 @@
 //! A report as tables that people read: each column under its heading, times with units.
 #![tactic(auto)]
 
+mod answers;
 mod cells;
 mod columns;
 mod grids;
@@ -9,9 +10,12 @@ mod lines;
 mod options;
 mod phases;
 mod refusals;
+mod replies;
 mod script_lines;
+mod scripts;
 #[cfg(test)]
 mod tests;
+mod texts;
 mod times;
 mod viewing;
 

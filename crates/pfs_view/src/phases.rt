@@ -6,16 +6,19 @@ ghost use Rattle.std.specs.Str.{bytes_eq};
 ghost use Rattle.pfs_outside.specs.WholeStreams.{Puts};
 ghost use Rattle.pfs_rows.specs.Tables.{table_name};
 ghost use Rattle.pfs_view.specs.Grids.{grid_text};
-ghost use Rattle.pfs_view.specs.ShownReports.{below_phase, chosen_of, chosen_text, counter_row as spec_counter_row, counter_table, counters_text, headings_of as spec_headings_of, is_chosen_phase, is_chosen_table, lost_and_end, lost_text, name_line as spec_name_line, phase_body, phase_line as spec_phase_line, phase_text, named_rows, phases_text, shown_text, table_grid, table_text, tables_text};
+ghost use Rattle.pfs_view.specs.ShownReports.{asked_text, behind_line, below_phase, blocks_at as spec_blocks_at, chosen_of, chosen_text, counter_row as spec_counter_row, counter_table, counters_text, headings_of as spec_headings_of, is_chosen_phase, is_chosen_table, lost_and_end, lost_text, name_line as spec_name_line, named_rows, phase_at, phase_body, phase_line as spec_phase_line, phase_text, phases_text, shown_text, stray_line, stray_text, table_grid, table_text, tables_text};
 
 use crate::NoMemory;
+use crate::answers::put_blocks;
 use crate::columns::{Headings, Times};
 use crate::grids::{Grid, offer};
 use crate::lines::{Buffers, Layout};
+use crate::scripts::judged;
 use pfs_catalogue::TABLES;
-use pfs_journal::{LostReport, PhaseParts, PhaseReport, Report, TableReport};
+use pfs_journal::{BlockReport, LostReport, PhaseParts, PhaseReport, Report, TableReport};
 use pfs_outside::{Sink, WriteStop, write_all};
 use pfs_rows::Table;
+use pfs_script::{Block, Phase};
 use pfs_text::{Row, RowValue, Text, put_u64};
 use std::alloc::Global;
 
@@ -328,21 +331,61 @@ fn put_below_phase<K: Sink>(
     put_lost_and_end(alloc, choice, lost, buffers, sink)
 }
 
+/// Offers the texts that the sessions asked beside their answers, unless one table is asked for.
+#[tactic(auto, unfolding(crate::specs::ShownReports::asked_text))]
+fn put_asked<K: Sink>(
+    alloc: Global,
+    choice: &Choice<'_>,
+    blocks: &[Block],
+    reports: &[BlockReport],
+    buffers: &mut Buffers,
+    sink: &mut K,
+) -> Result<(), WriteStop>
+    ensures { Puts (K.written sink.old) (K.written sink.new) (K.faults sink.old) (K.faults sink.new)
+        (asked_text (chosen_of choice.now) blocks.now reports.now) result }
+{
+    match choice.table {
+        Some(_) => Ok(()),
+        None => put_blocks(alloc, choice.times, blocks, reports, buffers, sink),
+    }
+}
+
+#[tactic(auto, using(pfs_outside::proofs::SinkWrites::puts_then, pfs_outside::proofs::SinkWrites::puts_stop), unfolding(crate::specs::ShownReports::behind_line))]
+fn put_behind_line<K: Sink>(
+    alloc: Global,
+    choice: &Choice<'_>,
+    blocks: &[Block],
+    reports: &[BlockReport],
+    tables: &[TableReport],
+    lost: &[LostReport],
+    buffers: &mut Buffers,
+    sink: &mut K,
+) -> Result<(), WriteStop>
+    ensures { Puts (K.written sink.old) (K.written sink.new) (K.faults sink.old) (K.faults sink.new)
+        (behind_line (chosen_of choice.now) blocks.now reports.now tables.now lost.now) result }
+{
+    put_asked(alloc, choice, blocks, reports, buffers, sink)?;
+    put_below_phase(alloc, choice, tables, lost, buffers, sink)
+}
+
 #[tactic(auto, using(pfs_outside::proofs::SinkWrites::puts_then, pfs_outside::proofs::SinkWrites::puts_stop), unfolding(crate::specs::ShownReports::phase_body))]
 fn put_phase_body<K: Sink>(
     alloc: Global,
     choice: &Choice<'_>,
+    blocks: &[Block],
     phase: &PhaseParts,
     buffers: &mut Buffers,
     sink: &mut K,
 ) -> Result<(), WriteStop>
     ensures { Puts (K.written sink.old) (K.written sink.new) (K.faults sink.old) (K.faults sink.new)
-        (phase_body (chosen_of choice.now) phase.now) result }
+        (phase_body (chosen_of choice.now) blocks.now phase.now) result }
 {
     put_phase_line(buffers, sink, phase.number)?;
-    put_below_phase(
+    put_behind_line(
         alloc,
         choice,
+        blocks,
+        phase.blocks.as_slice(),
         phase.tables.as_slice(),
         phase.lost.as_slice(),
         buffers,
@@ -355,18 +398,49 @@ fn put_phase_body<K: Sink>(
 fn put_phase<K: Sink>(
     alloc: Global,
     choice: &Choice<'_>,
+    blocks: &[Block],
     phase: &PhaseReport,
     buffers: &mut Buffers,
     sink: &mut K,
 ) -> Result<(), WriteStop>
     ensures { Puts (K.written sink.old) (K.written sink.new) (K.faults sink.old) (K.faults sink.new)
-        (phase_text (chosen_of choice.now) phase.now) result }
+        (phase_text (chosen_of choice.now) blocks.now phase.now) result }
 {
     let parts = phase.parts();
     if choice.shows_phase(parts.number) {
-        put_phase_body(alloc, choice, parts, buffers, sink)
+        put_phase_body(alloc, choice, blocks, parts, buffers, sink)
     } else {
         Ok(())
+    }
+}
+
+/// The blocks of a script's phase at a place, none where there is no such phase.
+fn blocks_at(said: &[Phase], place: usize) -> &[Block]
+    ensures { result.now ≡ spec_blocks_at said.now place }
+{
+    match said.get(place) {
+        Some(phase) => phase.blocks.as_slice(),
+        None => &[],
+    }
+}
+
+/// Offers the phase at a place.
+#[tactic(auto, unfolding(crate::specs::ShownReports::phase_at))]
+fn put_phase_at<K: Sink>(
+    alloc: Global,
+    choice: &Choice<'_>,
+    said: &[Phase],
+    phases: &[PhaseReport],
+    place: usize,
+    buffers: &mut Buffers,
+    sink: &mut K,
+) -> Result<(), WriteStop>
+    ensures { Puts (K.written sink.old) (K.written sink.new) (K.faults sink.old) (K.faults sink.new)
+        (phase_at (chosen_of choice.now) said.now phases.now place) result }
+{
+    match phases.get(place) {
+        Some(phase) => put_phase(alloc, choice, blocks_at(said, place), phase, buffers, sink),
+        None => Ok(()),
     }
 }
 
@@ -375,15 +449,16 @@ fn put_phase<K: Sink>(
 fn put_phases<K: Sink>(
     alloc: Global,
     choice: &Choice<'_>,
+    said: &[Phase],
     phases: &[PhaseReport],
     buffers: &mut Buffers,
     sink: &mut K,
 ) -> Result<(), WriteStop>
     ensures { Puts (K.written sink.old) (K.written sink.new) (K.faults sink.old) (K.faults sink.new)
-        (phases_text (chosen_of choice.now) phases.now) result }
+        (phases_text (chosen_of choice.now) said.now phases.now) result }
 {
-    for phase in phases {
-        match put_phase(alloc, choice, phase, buffers, sink) {
+    for place in 0..phases.len() {
+        match put_phase_at(alloc, choice, said, phases, place, buffers, sink) {
             Ok(()) => {}
             Err(stop) => return Err(stop),
         }
@@ -391,23 +466,57 @@ fn put_phases<K: Sink>(
     Ok(())
 }
 
+/// Offers the line that tells of a script that isn't the report's.
+#[tactic(auto, unfolding(crate::specs::ShownReports::stray_line))]
+fn put_stray_line<K: Sink>(sink: &mut K) -> Result<(), WriteStop>
+    ensures { Puts (K.written sink.old) (K.written sink.new) (K.faults sink.old) (K.faults sink.new)
+        stray_line result }
+{
+    write_all(
+        sink,
+        b"The script is not that of this report: its texts are left out.\n\n",
+    )
+}
+
+/// Offers the phases without texts, and that line before them.
+#[tactic(auto, using(pfs_outside::proofs::SinkWrites::puts_then, pfs_outside::proofs::SinkWrites::puts_stop), unfolding(crate::specs::ShownReports::stray_text))]
+fn put_stray<K: Sink>(
+    alloc: Global,
+    choice: &Choice<'_>,
+    phases: &[PhaseReport],
+    buffers: &mut Buffers,
+    sink: &mut K,
+) -> Result<(), WriteStop>
+    ensures { Puts (K.written sink.old) (K.written sink.new) (K.faults sink.old) (K.faults sink.new)
+        (stray_text (chosen_of choice.now) phases.now) result }
+{
+    put_stray_line(sink)?;
+    put_phases(alloc, choice, &[], phases, buffers, sink)
+}
+
 /// Writes the tables and counters of a report to a sink, line by line: each phase that is shown under its number, each
-/// table that is shown under its name, in the report's order. The journal is left out. On a refusal a front of this
-/// was written.
+/// table that is shown under its name, in the report's order. Before them stand for each session the texts that the
+/// script asks, where it is the report's, each beside its answer: with an empty script none. The journal is left out.
+/// On a refusal a front of this was written.
 #[tactic(auto, unfolding(crate::specs::ShownReports::shown_text))]
 pub fn show<K: Sink>(
     alloc: Global,
     choice: &Choice<'_>,
+    script: &[u8],
     report: &Report,
     sink: &mut K,
 ) -> Result<(), WriteStop>
     ensures { Puts (K.written sink.old) (K.written sink.new) (K.faults sink.old) (K.faults sink.new)
-        (shown_text (chosen_of choice.now) report.now) result }
+        (shown_text (chosen_of choice.now) script.now report.now) result }
 {
     let mut buffers = Buffers {
         line: Vec::new(alloc),
         cell: Vec::new(alloc),
     };
     let phases = report.parts().phases.as_slice();
-    put_phases(alloc, choice, phases, &mut buffers, sink)
+    match judged(alloc, script, phases) {
+        Ok(Some(said)) => { put_phases(alloc, choice, said.as_slice(), phases, &mut buffers, sink) }
+        Ok(None) => put_stray(alloc, choice, phases, &mut buffers, sink),
+        Err(_) => Err(WriteStop::NoMemory),
+    }
 }

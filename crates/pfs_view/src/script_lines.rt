@@ -61,7 +61,8 @@ fn put_printed_byte(out: &mut Vec<u8>, byte: u8) -> Result<(), NoMemory>
     out.extend_from_slice(b">")
 }
 
-fn put_printed(out: &mut Vec<u8>, text: &[u8]) -> Result<(), NoMemory>
+/// Appends a text of which each byte is printed so.
+pub(crate) fn put_printed(out: &mut Vec<u8>, text: &[u8]) -> Result<(), NoMemory>
     ensures { OnOk result (out.new.items ≡ out.old.items ++ flat_map printed_byte text.now) }
 {
     for byte in text {

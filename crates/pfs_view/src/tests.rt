@@ -197,6 +197,60 @@ fn the_first_wrong_line_is_told(rt: HostRuntime) -> Result<(), Fail> {
     Ok(())
 }
 
+const SCRIPT: &[u8] =
+    b"phase\nsession 1 u h\nrepeat 2\nsql SELECT USER FROM users\ndone\nsql DELETE FROM accounts\n";
+
+const ANSWERED: &[u8] =
+    b"pfs-report 1\nphase 1\nsession 1\nquery\nrows 1\nrow 'u'\nquery\nrows 0\nerror 1142\nfinal\ntable users\nrow 'u' 1 1\nend\n";
+
+const BESIDE: &[u8] = b"phase 1
+
+session 1
+
+1: SELECT USER FROM users
++---+
+| 1 |
++---+
+| u |
++---+
+
+2: SELECT USER FROM users
+no rows
+
+3: DELETE FROM accounts
+error 1142: the command is not allowed on this table
+
+users
++------+---------------------+-------------------+
+| USER | CURRENT_CONNECTIONS | TOTAL_CONNECTIONS |
++------+---------------------+-------------------+
+| u    |                   1 |                 1 |
++------+---------------------+-------------------+
+
+";
+
+/// What is shown of a report behind a script.
+fn shown_behind(alloc: Global, script: &[u8], text: &[u8]) -> Result<MemorySink, Fail> {
+    let mut whole = Vec::new(alloc);
+    whole.extend_from_slice(script)?;
+    whole.extend_from_slice(text)?;
+    let mut source = MemorySource::new(alloc, whole.as_slice(), &[])?;
+    let mut sink = MemorySink::new(alloc, 4_000, &[])?;
+    view(alloc, &all(), script.len(), &mut source, &mut sink);
+    Ok(sink)
+}
+
+#[test]
+fn texts_stand_beside_their_answers(rt: HostRuntime) -> Result<(), Fail> {
+    let sink = shown_behind(rt.alloc(), SCRIPT, ANSWERED)?;
+    same(&rt, "text", sink.bytes(), BESIDE);
+    let sink = shown_behind(rt.alloc(), b"phase\n", ANSWERED)?;
+    let told =
+        b"The script is not that of this report: its texts are left out.\n\nphase 1\n\nusers\n";
+    same(&rt, "another", sink.bytes().starts_with(told), true);
+    Ok(())
+}
+
 const EXPLAINED: &[u8] = b"bad script: line 3 reason 1
 Line 3 is the first faulty line: a byte of it is none of a script's.
     end<27>'<9>

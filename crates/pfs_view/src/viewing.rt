@@ -55,20 +55,32 @@ impl Status {
 
 /// A way to write a report for people.
 pub trait Rendering {
-    /// How a report is written.
-    ghost text: { Self → ReportParts → List ℕ };
+    /// How a report is written, beside the script that is given with it.
+    ghost text: { Self → List ℕ → ReportParts → List ℕ };
 
-    /// Writes a report to a sink. On a refusal a front of it was written.
-    fn put<K: Sink>(&self, alloc: Global, report: &Report, sink: &mut K) -> Result<(), WriteStop>
+    /// Writes a report to a sink; an empty script stands for none. On a refusal a front of it was written.
+    fn put<K: Sink>(
+        &self,
+        alloc: Global,
+        script: &[u8],
+        report: &Report,
+        sink: &mut K,
+    ) -> Result<(), WriteStop>
         ensures { Puts (K.written sink.old) (K.written sink.new) (K.faults sink.old) (K.faults sink.new)
-            (text self.now report.now) result };
+            (text self.now script.now report.now) result };
 }
 
 impl Rendering for Choice<'_> {
     ghost text = { λ choice. shown_text (chosen_of choice) };
 
-    fn put<K: Sink>(&self, alloc: Global, report: &Report, sink: &mut K) -> Result<(), WriteStop> {
-        show(alloc, self, report, sink)
+    fn put<K: Sink>(
+        &self,
+        alloc: Global,
+        script: &[u8],
+        report: &Report,
+        sink: &mut K,
+    ) -> Result<(), WriteStop> {
+        show(alloc, self, script, report, sink)
     }
 }
 
@@ -142,7 +154,7 @@ fn view_bytes<R: Rendering, K: Sink>(
         (Rose (K.faults sink.old) (K.faults sink.new)) result }
 {
     match read(alloc, bytes) {
-        Ok(report) => status_after(rendering.put(alloc, &report, sink), Status::Done),
+        Ok(report) => status_after(rendering.put(alloc, script, &report, sink), Status::Done),
         Err(ReportStop::Bad { at }) => refuse(alloc, script, sink, bytes, at),
         Err(ReportStop::NoMemory) => Status::NoMemory,
     }
@@ -177,8 +189,8 @@ fn view_input<R: Rendering, K: Sink>(
 
 /// Reads a report from a source and writes it to a sink in the way that is asked for: of a `Choice` its tables and
 /// counters under their headings. Of a text that is no report its first wrong line is told, and of the line of a bad
-/// script its reason in words. Before the report so many bytes of its script come, whose faulty line is told then; 0
-/// where it doesn't.
+/// script its reason in words. Before the report so many bytes of its script come, whose texts, or whose faulty line,
+/// are told then; 0 where it doesn't.
 pub fn view<R: Rendering, S: Source, K: Sink>(
     alloc: Global,
     rendering: &R,

@@ -1,8 +1,6 @@
-use Rattle.std.proofs.Common.{◌≤◌, take}
-use Rattle.std.specs.List.{flat_map}
-use Rattle.pfs_outside.specs.DeviceCalls.{Added}
-use Rattle.pfs_view.specs.ShownReports.{chosen_of, phase_text}
+use Rattle.pfs_view.specs.ShownReports.{chosen_of, phase_at}
+use Rattle.pfs_view.proofs.PlacedWrites.{WrittenTo}
 use Rattle.pfs_view.proofs.phases.put_phases.Given as goal
 
-abbrev pub invariant-loop-phase : goal.invariant-loop-phase
-invariant-loop-phase g l = Added (g.K.Sink.written l.fn.sink) (g.K.Sink.written l.sink) (flat_map (phase_text (chosen_of l.choice)) (take l.phase-index l.phases)) × (g.K.Sink.faults l.fn.sink ≤ g.K.Sink.faults l.sink)
+abbrev pub invariant-loop-place : goal.invariant-loop-place
+invariant-loop-place g l = WrittenTo (phase_at (chosen_of l.choice) l.said l.phases) l.place (g.K.Sink.written l.fn.sink) (g.K.Sink.written l.sink) (g.K.Sink.faults l.fn.sink) (g.K.Sink.faults l.sink)

@@ -13,7 +13,7 @@ returns-in-Ok g c =
     let faults = g.K.Sink.faults in
     let shown = g.R.Rendering.text c.args.rendering.now in
     let P = HasView shown c.args.script.now c.args.bytes.now in
-    let t = told P (written c.args.sink.now) (written c.put.new.sink) (faults c.args.sink.now) (faults c.put.new.sink) (shown c.in-Ok.report) Done c.put.result tt (c.in-Ok.report, c.in-Ok.ensures.report, refl) c.put.ensures in
+    let t = told P (written c.args.sink.now) (written c.put.new.sink) (faults c.args.sink.now) (faults c.put.new.sink) (shown c.args.script.now c.in-Ok.report) Done c.put.result tt (c.in-Ok.report, c.in-Ok.ensures.report, refl) c.put.ensures in
     subst (λ (s : Status). Tells P (written c.args.sink.now) (written c.put.new.sink) (Rose (faults c.args.sink.now) (faults c.put.new.sink)) s) (sym c.status_after.ensures) t
 
 pub returns-in-Err-Bad : goal.returns-in-Err-Bad
