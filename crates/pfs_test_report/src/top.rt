@@ -104,7 +104,12 @@ fn report_of_one(alloc: Global, entries: &[u8], rest: &[u8]) -> Result<Vec<u8>, 
     Ok(report)
 }
 
-const VERDICTS: [(&[u8], &[u8], &[u8]); 5] = [
+const VERDICTS: [(&[u8], &[u8], &[u8]); 6] = [
+    (
+        b"consumer thread_instrumentation NO\nphase\nsession 1 u h\nstart wait/io/file/sql/binlog\nspend 5\nend\n",
+        b"start 1 aside 0 1 0 -\nend 1 1 0 1\nadd 8327 1\n",
+        b"table events_waits_summary_global_by_event_name\nrow 'wait/io/file/sql/binlog' 1 5 5 5 5\nend\n",
+    ),
     (
         b"consumer global_instrumentation NO\nphase\nsession 1 u h\nstart wait/io/file/sql/binlog\nspend 5\nend\n",
         b"start - off-global 0 1 0 -\nend - - - -\n",

@@ -45,3 +45,22 @@ fn other_places_show_the_same_tables(rt: HostRuntime) -> Result<(), Fail> {
     }
     Ok(())
 }
+
+/// Room for one account.
+const ONE_ACCOUNT: &[u8] =
+    b"limit accounts 1\nphase\nsession 1 a h1\nstart wait/io/file/sql/binlog\nspend 5\nend\nsession 2 b h2\nstart wait/io/file/sql/binlog\nspend 5\nend\n";
+
+/// Session 1 connects before session 2, so the account is its own as under `plain`.
+#[test]
+fn the_first_to_connect_finds_room(rt: HostRuntime) -> Result<(), Fail> {
+    let orders = [Order::new((2, 1), (1, 2))];
+    let gate = Orders { orders: &orders };
+    let at_once = ran_gated(&rt, &gate, rt.alloc(), ONE_ACCOUNT)?;
+    let in_turn = ran_in_turn(rt.alloc(), ONE_ACCOUNT)?;
+    same(&rt, "order", gate.are_kept(), true);
+    let lost = b"\nlost Performance_schema_accounts_lost 1\nend\n";
+    same(&rt, "lost", has(at_once.bytes(), lost), true);
+    let tables = behind_final(at_once.bytes());
+    same(&rt, "tables", tables, behind_final(in_turn.bytes()));
+    Ok(())
+}
