@@ -1,8 +1,7 @@
 -- What the clauses exclude: answers that no table gives, and that a wrong body would.
-use Rattle.std.proofs.Common.{◌≡◌, ℕ, ◌+◌, ◌*◌, ◌/◌, ◌%◌, ◌<◌, ◌≤◌, true, false, List, [], ◌∷◌, slice_index, refl, sym, ◌∙◌, arith}
+use Rattle.std.proofs.Common.{◌≡◌, ℕ, ◌+◌, ◌*◌, ◌≤◌, true, false, List, [], ◌∷◌, slice_index, refl, sym, ◌∙◌, arith}
 use Rattle.pfs_board.specs.declared.answers.Taken.TheVariants.{Busy}
 use Rattle.pfs_board.specs.declared.view.Change.{Change}
-use Rattle.pfs_board.specs.declared.view.Corner.{Corner}
 use Rattle.pfs_board.specs.declared.view.Finished.{Finished}
 use Rattle.pfs_board.specs.declared.view.Sight.{Sight}
 use Rattle.pfs_board.specs.declared.view.View.{View}

@@ -13,6 +13,7 @@ mod SlotFacts
 mod RowWaits
 mod CallSteps
 mod WordFacts
+mod NextWords
 mod ReadySeats
 mod HandFacts
 mod OwnFacts

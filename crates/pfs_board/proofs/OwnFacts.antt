@@ -1,5 +1,5 @@
 -- What a seat has seen covers what it made.
-use Rattle.std.proofs.Common.{◌≡◌, ℕ, subst, ◌+◌, ◌*◌, ◌/◌, ◌<◌, ◌≤◌, List, [], ◌∷◌, true, false, length, get_or, set, max, sym, refl, ap, ◌∙◌, arith}
+use Rattle.std.proofs.Common.{◌≡◌, ℕ, subst, ◌+◌, ◌*◌, ◌/◌, ◌<◌, ◌≤◌, List, [], length, get_or, set, sym, refl, ap, arith}
 use Rattle.pfs_board.specs.declared.answers.Seen.{Seen}
 use Rattle.pfs_board.specs.declared.answers.Seen.TheVariants as seen
 use Rattle.pfs_board.specs.declared.view.Change.{Change}

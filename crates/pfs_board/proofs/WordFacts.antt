@@ -1,11 +1,10 @@
 -- Rows as words.
-use Rattle.std.proofs.Common.{◌≡◌, ℕ, zero, suc, ◌+◌, ◌-◌, ◌*◌, ◌<◌, ◌≤◌, ◌⊎◌, List, [], ◌∷◌, ◌++◌, length, get_or, take, drop, sym, refl, ap, ◌∙◌, inl, inr, ⊎_elim, arith, length-append, append_assoc, slice_range}
+use Rattle.std.proofs.Common.{◌≡◌, ℕ, zero, suc, ◌+◌, ◌-◌, ◌*◌, ◌<◌, ◌≤◌, List, [], ◌∷◌, ◌++◌, length, get_or, take, drop, sym, refl, ap, ◌∙◌, arith, append_assoc, slice_range}
 use Rattle.std.proofs.lemmas.List.{ext_get_or, length-take-le, length-drop}
 use Rattle.std.proofs.Common.{append-nil, take-add}
 use mathlib.Core.Option.{some, some-injective, some-ne-none}
-use native.Mathlib.Decide.{dec_lt}
-use lib.ListN.{get_elem?, get_or-append}
-use lib.Seq.{get_or-take, get_or-drop, get_or-append_right}
+use lib.ListN.{get_elem?}
+use lib.Seq.{get_or-take, get_or-drop}
 use Rattle.pfs_board.specs.declared.answers.FinalRow.{FinalRow}
 use Rattle.pfs_board.specs.SeatViews.{final_words}
 

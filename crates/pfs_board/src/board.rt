@@ -18,7 +18,7 @@ use crate::answers::{Content, FinalRow, Opening, Seen, Taken};
 use crate::rules::{Cut, Glue, Kept, Rules, Tell};
 use crate::steps::{free_by, put_by, read_by, seize, take_by};
 use crate::view::{Label, View};
-use crate::words::{hand_back, open_words};
+use crate::words::{Listed, Openings, hand_back, open_words};
 use atomic_table::{Badge, Refused, Table};
 use std::alloc::{AllocError, Global};
 use std::marker::Model;
@@ -111,8 +111,24 @@ impl<V: Kept> Board<V> {
         ensures seat { IfOk result (λ b. b.1 ≡ known b.0.id (root b.0.start)) }
         ensures hands { IfOk result (λ b. held b.1.view.rows ≡ 0) }
     {
-        let words = open_words(alloc, rows)?;
-        let spare = Vec::with_capacity(alloc, rows.len())?;
+        Board::open_by(alloc, &Listed { rows }, kept)
+    }
+
+    /// A board with rows that are told one by one, as `open` makes it of a list.
+    pub fn open_by<O: Openings>(
+        alloc: Global,
+        openings: &O,
+        kept: V,
+    ) -> Result<(Board<V>, BoardSeat), NoMemory>
+        requires rows { 0 < length (O.rows openings.now) }
+        requires kept { V.stands_for kept [] }
+        ensures board { IfOk result (λ b. (b.0.start ≡ opening_words (O.rows openings.now))
+            × (length b.0.start ≡ 17 * length (O.rows openings.now))) }
+        ensures seat { IfOk result (λ b. b.1 ≡ known b.0.id (root b.0.start)) }
+        ensures hands { IfOk result (λ b. held b.1.view.rows ≡ 0) }
+    {
+        let words = open_words(alloc, openings)?;
+        let spare = Vec::with_capacity(alloc, openings.count() as usize)?;
         let mut slots = Vec::with_capacity(alloc, 1)?;
         slots.push_reserved(Some(kept));
         match Table::new(alloc, words.as_slice(), slots, &words) {

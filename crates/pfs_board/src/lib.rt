@@ -14,3 +14,4 @@ pub use answers::{Content, FinalRow, Opening, Seen, Taken};
 pub use board::{Board, BoardSeat, FinalRows, NoMemory};
 pub use rules::Kept;
 pub use view::{Change, Corner, Entered, Finished, Label, Sight, Stage, View};
+pub use words::Openings;

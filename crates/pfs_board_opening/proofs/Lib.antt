@@ -1,1 +1,2 @@
+mod FirstRows
 mod OpenedTables

@@ -9,7 +9,7 @@ ghost use Rattle.pfs_tickets.specs.Knowledge.{IsWhole as HasAllDraws};
 ghost use Rattle.pfs_board_opening.specs.Opened.{AreFresh, HaveOpened, first_root, nothing_lost};
 
 use crate::NoMemory;
-use crate::rows::first_rows;
+use crate::rows::FirstRows;
 use pfs_admin::opening_flags;
 use pfs_board::{Board, laws as board_laws};
 use pfs_board_admin::{Desk, Shared};
@@ -72,8 +72,7 @@ pub fn open_tables<N: Shared>(
         writer,
     } = words;
     let desk: Desk<N> = Desk::open(alloc, setting, writer)?;
-    let rows = first_rows(alloc)?;
-    let (board, first) = Board::open(alloc, rows.as_slice(), desk)?;
+    let (board, first) = Board::open_by(alloc, &FirstRows {}, desk)?;
     let (tickets, drawer) = Tickets::open(alloc)?;
     let seats = Seats {
         board: first,

@@ -1,13 +1,11 @@
 //! The rows of a run as they are at first.
 
-ghost use Rattle.std.specs.Prelude.{◌≡◌, ◌<◌, ℕ, IfOk, length};
-ghost use Rattle.pfs_board.specs.OpeningWords.{row_of};
+ghost use Rattle.std.specs.Prelude.{◌≡◌, ◌<◌};
 ghost use Rattle.pfs_board_store.specs.RootLaws.{IsFirstRow};
+ghost use Rattle.pfs_board_opening.specs.FirstRows.{first_rows};
 
-use crate::NoMemory;
-use pfs_board::Opening;
+use pfs_board::{Opening, Openings};
 use pfs_stat::zero;
-use std::alloc::Global;
 
 const ROWS: u64 = 14_242;
 
@@ -23,14 +21,18 @@ fn first_row(row: u64) -> Opening
     }
 }
 
-// All of them.
-pub(crate) fn first_rows(alloc: Global) -> Result<Vec<Opening>, NoMemory>
-    ensures count { IfOk result (λ rows. length rows.items ≡ 14242) }
-    ensures each { IfOk result (λ rows. (row : ℕ) → row < 14242 → IsFirstRow row (row_of rows.items row)) }
-{
-    let mut rows = Vec::with_capacity(alloc, ROWS as usize)?;
-    for row in 0..ROWS {
-        rows.push(first_row(row))?;
+/// All of them, each made as it is asked for.
+#[derive(Drop)]
+pub(crate) struct FirstRows {}
+
+impl Openings for FirstRows {
+    ghost rows = { λ all. first_rows };
+
+    fn count(&self) -> u64 {
+        ROWS
     }
-    Ok(rows)
+
+    fn row(&self, at: u64) -> Opening {
+        first_row(at)
+    }
 }
