@@ -5,7 +5,7 @@ mod PhaseActors
 pub mod SeatNumbers
 mod PhaseLosses
 mod PhaseRoom
-mod PhaseEnds
+pub mod PhaseEnds
 mod PhaseSteps
 mod PhaseRuns
 mod ResultLoops

@@ -1,5 +1,5 @@
 -- The end of a phase as the root of a board was told it and read it, and the root behind it.
-use Rattle.std.proofs.Common.{ℕ, ◌≡◌, ◌≤◌, List, [], ◌∷◌, ◌++◌, length, slice_index, ap, ◌∙◌, subst}
+use Rattle.std.proofs.Common.{ℕ, ◌≡◌, ◌≤◌, List, [], ◌∷◌, ◌++◌, length, slice_index, ap, sym, ◌∙◌, subst}
 use Rattle.std.specs.List.{flat_map}
 use Rattle.atomic_table.specs.Seated.{TableId}
 use Rattle.pfs_admin.specs.declared.changes.Change.{Change}
@@ -9,7 +9,7 @@ use Rattle.pfs_board.specs.declared.view.Label.{Label}
 use Rattle.pfs_board_admin.specs.LabelWords.{AllKeepWords, version_after}
 use Rattle.pfs_board_root.specs.Roots.{RootView}
 use Rattle.pfs_board_store.specs.RootActors.{AreGathered, Worked, calls_of_all}
-use Rattle.pfs_board_tables.specs.EndTables.{AreListed, HasReadTables}
+use Rattle.pfs_board_tables.specs.EndTables.{AreListed, HasMet, HasReadTables}
 use Rattle.pfs_classes.specs.declared.setting.Setting.{Setting}
 use Rattle.pfs_containers.specs.ContainerState.{lost_in}
 use Rattle.pfs_containers.specs.declared.containers.Lost.{Lost}
@@ -47,6 +47,7 @@ module _ (setting : Setting) (change : Label → Change) (switches : TableId) wh
     pub met : Worked
     pub read : IsRead setting change switches start before own reads
     pub listed : AreListed setting tables reads.calls
+    pub meets : Each HasMet (met ∷ own)
     pub lost_are : lost ≡ lost_in read.last.admin.kept.now
     pub gathered : AreGathered (met ∷ (reads ∷ (own ++ before))) new.seat new.words new.draws
     pub alone : Each IsOwn (met ∷ (reads ∷ own))
@@ -62,6 +63,7 @@ module _ (setting : Setting) (change : Label → Change) (switches : TableId) wh
     met = t.met;
     read = t.read;
     listed = t.listed;
+    meets = t.meets;
     lost_are = t.lost_are;
     gathered = t.gathered;
     alone = all_own (t.met ∷ (t.reads ∷ t.own)) (same_number old.seat.number (t.met ∷ (t.reads ∷ t.own)) t.numbers zero) t.quiet;
@@ -100,21 +102,27 @@ module _ (setting : Setting) (change : Label → Change) (switches : TableId) wh
     }));
   }
 
+  -- an end of these actors, which says this of the root behind it
+  pub record IsTold (start : List ℕ) (before : List Worked) (new : RootView) : Type 0 where
+    pub first : PhaseEnd setting change switches start before
+    pub made : new.seat.made ≡ first.seat.made
+    pub seen : (at : ℕ) → slice_index first.pen.view.seen at ≤ slice_index new.words.seen at
+
   -- the root has settled again
-  pub settled_next : (start : List ℕ) (ended : List Ended) (board : Ended) (tables : List TableReport) (lost : Lost) (new : RootView) → HasReadAt start (all_of (board ∷ ended)) tables lost new → new.seat.start ≡ start → new.seat.number ≡ 0
+  unfoldable pub settled_next : (start : List ℕ) (ended : List Ended) (board : Ended) (tables : List TableReport) (lost : Lost) (new : RootView) → HasReadAt start (all_of (board ∷ ended)) tables lost new → new.seat.start ≡ start → new.seat.number ≡ 0
       → IsWhole new.seat → HasAllDraws new.draws → IsSettled setting change switches (board ∷ ended) new
   settled_next start ended board tables lost new t same zero whole draws =
       let before : List Worked = all_of (board ∷ ended) in
-      subst (λ z. (first : PhaseEnd setting change switches z before) → new.seat.made ≡ first.seat.made → ((at : ℕ) → slice_index first.pen.view.seen at ≤ slice_index new.words.seen at) → IsSettled setting change switches (board ∷ ended) new) same
-      (λ first made seen. record {
+      let told : IsTold new.seat.start before new = subst (λ (z : List ℕ). IsTold z before new) (sym same) (record { first = t.read.first; made = t.made; seen = t.seen }) in
+      record {
         own = t.met ∷ (t.reads ∷ t.own);
         gathered = t.gathered;
         number = zero;
         alone = t.alone;
         keeps = t.keep;
-        first = first;
-        made = made;
-        seen = λ at low. seen at;
+        first = told.first;
+        made = told.made;
+        seen = λ at low. told.seen at;
         whole = whole;
         all_draws = draws;
-      }) t.read.first t.made t.seen
+      }

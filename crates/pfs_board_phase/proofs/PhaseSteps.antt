@@ -60,7 +60,7 @@ use Rattle.pfs_tickets.specs.declared.view.View.{View as TicketView}
 use Rattle.pfs_board_phase.specs.BetweenPhases.{AreLost, IsBetweenPhases, IsSettled, counters_of}
 use Rattle.pfs_board_phase.specs.PhaseLaws.{BeginsLaw, IsReportOf, PlayedLaw}
 use Rattle.pfs_board_phase.specs.PhaseResults.{AreCounted, AreFew, AreKept, AreReported, HasSeat}
-use Rattle.pfs_board_phase.specs.SeatNumbers.{AreNumbered}
+use Rattle.pfs_board_phase.specs.SeatNumbers.{AreNumbered, newest_tables}
 use Rattle.pfs_board_phase.specs.TakenSeats.{AreTaken, emptied}
 use Rattle.pfs_board_phase.proofs.TakenSeats.{emptied_long}
 use Rattle.pfs_board_phase.proofs.PhaseActors.{began, kept_words, opened, shares}
@@ -68,7 +68,7 @@ use Rattle.pfs_board_phase.proofs.PhaseEnds.{HasReadAt, board_of, end_read, is_e
 use Rattle.pfs_board_phase.proofs.PhaseLosses.{few_lost, lost_behind}
 use Rattle.pfs_board_phase.proofs.PhaseRoom.{all_low_here, all_may, few_blocks, few_done, further_long, room, spared_next, used}
 use Rattle.pfs_board_phase.proofs.PhaseSeats.{all_sit, are_ready, seats_behind, sessions_of}
-use Rattle.pfs_board_phase.proofs.SeatNumbers.{actors_long, all_quiet, next_numbered, own_numbered}
+use Rattle.pfs_board_phase.proofs.SeatNumbers.{actors_long, all_quiet, closed_numbered, newest_then, next_numbered}
 use Rattle.pfs_board_phase.proofs.PhaseSpells.{AreReady, HavePlayed, Played, are_of, are_played, are_told, blocks_long, have_played, ran_in, rans_long, spells_in, spells_long, theirs}
 
 -- of two lists of actors, the first
@@ -253,12 +253,18 @@ module _ (setting : Setting) (phases before : List Phase) (phase : Phase) (after
       now_long : length now ≡ length phase.blocks
       now_long = spells_long setting phases before phase after spells did.ones ∙ sym (ap length did.blocks_are ∙ blocks_long setting phases before phase after spells did.ones)
 
-      numbers_now : AreNumbered (actors_of (spells ++ now)) (all_of (board ∷ run.ended))
+      numbers_now : AreNumbered setting (newest_tables reports) (actors_of (spells ++ now)) (all_of (board ∷ run.ended))
       numbers_now =
           let opens = opened setting setting change (opening_at flags root share_of_each share_of_each) 1 phase.blocks books rans ran.ws ran.each in
-          let own : AreNumbered (actors_of spells) (s.own ++ all_of run.ended) = own_numbered (actors_of spells) s.own (all_of run.ended) s.alone b.between.by_number.theirs in
-          let all : AreNumbered (calls_of_all ws ++ actors_of spells) actors = next_numbered flags root (actors_of spells) ran.ws (s.own ++ all_of run.ended) (actors_long spells ∙ sym b.between.by_number.seats) opens.0 own in
-          subst (λ z. AreNumbered z actors) (sym (actors_then spells now ∙ ap (λ z. z ++ actors_of spells) (sym theirs_now))) all
+          let shown : List (List TableReport) = newest_tables reports in
+          let all : AreNumbered setting shown (calls_of_all ws ++ actors_of spells) actors =
+          next_numbered setting shown flags root (actors_of spells) ran.ws (s.own ++ all_of run.ended) (actors_long spells ∙ sym b.between.by_number.seats) opens.0 b.between.by_number.theirs in
+          subst (λ z. AreNumbered setting shown z actors) (sym (actors_then spells now ∙ ap (λ z. z ++ actors_of spells) (sym theirs_now))) all
+
+      closed_now : AreNumbered setting (newest_tables (reports ++ report ∷ [])) (actors_of (spells ++ now)) ((at.met ∷ (at.reads ∷ at.own)) ++ all_of (board ∷ run.ended))
+      closed_now =
+          subst (λ z. AreNumbered setting z (actors_of (spells ++ now)) ((at.met ∷ (at.reads ∷ at.own)) ++ all_of (board ∷ run.ended))) (sym (newest_then reports report ∙ ap (λ z. z ∷ newest_tables reports) o.shown))
+          (closed_numbered setting tables (newest_tables reports) (actors_of (spells ++ now)) at.met at.reads at.own (all_of (board ∷ run.ended)) at.alone at.meets at.listed numbers_now)
 
       course_now : IsWalked one_more reached setting phases (depth_of phases) before phase after b.parted b.playable (spells ++ now)
       course_now =
@@ -300,6 +306,7 @@ module _ (setting : Setting) (phases before : List Phase) (phase : Phase) (after
 
       -- where the next phase begins
       pub next_between : NextLaw → EndReadLaw → PlacedLaw → IsPhase report → (reports_now : List PhaseParts) → reports_now ≡ reports ++ report ∷ [] → IsBetweenPhases setting phases switches all after new new_seats events reports_now
+      unfolding settled_next
       next_between next end law good reports_now is =
           let same : new.seat.start ≡ start = o.read.stayed.start ∙ started in
           let further : length (numbered 1 all) ≡ length done + length phase.blocks = further_long before phase in
@@ -311,7 +318,7 @@ module _ (setting : Setting) (phases before : List Phase) (phase : Phase) (after
             told = ap (λ z. z ++ report ∷ []) b.between.told ∙ sym is;
             good = subst (All IsPhase) (sym is) (All-push IsPhase reports report b.between.good good);
             settled = settled_next setting change switches start run.ended board tables containers new at same (o.read.stayed.number ∙ mid_number) o.read.stayed.whole.0 o.read.stayed.whole.1;
-            by_number = record { seats = omega (arith, o.read.stayed.seats, ran.taken.seats, ran.split.seats, b.between.by_number.seats, length-append spells now, now_long); theirs = numbers_now };
+            by_number = record { seats = omega (arith, o.read.stayed.seats, ran.taken.seats, ran.split.seats, b.between.by_number.seats, length-append spells now, now_long); theirs = subst (λ z. AreNumbered setting (newest_tables z) (actors_of (spells ++ now)) ((at.met ∷ (at.reads ∷ at.own)) ++ all_of (board ∷ run.ended))) (sym is) closed_now };
             spared = spared_next done (numbered 1 all) phase.blocks root mid new b.between.spared further (used setting phases before phase after spells b.here [] phase.blocks refl) ran.spare ran.tickets o.read.stayed.allowance (ap (λ (z : TicketView). z.draws) o.read.stayed.draws);
             wide = o.kept.wide ∙ (ap length o.empty ∙ (emptied_long seats phase.blocks ∙ b.between.wide));
             seated = seats_behind setting phases before phase after spells did.ones seats mid_seats new_seats did.blocks_are (subst (λ (z : List Block). AreDistinct (sessions_of z)) did.blocks_are b.playable.sessions) (o.empty ∙ ap (emptied seats) did.blocks_are)

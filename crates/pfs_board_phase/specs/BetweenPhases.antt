@@ -76,8 +76,8 @@ counters_of lost events = record {
 }
 
 -- Behind the phases before, with those after ahead: the run of them over this board, and its reports, which a report
--- can have; a root that has settled, with enough left, and that split a seat off for each block, numbered as they are;
--- and each session in its seat. `run` is what is known of the run
+-- can have; a root that has settled, with enough left, and that split a seat off for each block and read the tables of
+-- each phase, its actors numbered so; and each session in its seat. `run` is what is known of the run
 pub record IsBetweenPhases (setting : Setting) (phases : List Phase) (switches : TableId) (before after : List Phase)
     (root : RootView) (seats : List (Option Book)) (lost : LostEvents) (reports : List PhaseParts) : Type 0 where
   pub limits : AreInRange setting.limits
@@ -87,7 +87,7 @@ pub record IsBetweenPhases (setting : Setting) (phases : List Phase) (switches :
   pub told : run.reports ≡ reports
   pub good : All IsPhase reports
   pub settled : IsSettled setting (change_in phases) switches run.ended root
-  pub by_number : HasNumbered run.spells run.ended root
+  pub by_number : HasNumbered setting reports run.spells (settled.own ++ all_of run.ended) root
   pub spared : IsSpared (numbered 1 before) root
   pub wide : length seats ≡ 64
   pub seated : (session : ℕ) → 1 ≤ session → session ≤ 64

@@ -104,6 +104,7 @@ module _ (setting : Setting) (change : Label → Change) (run : TableId) (actors
         met = own_meet flags s b.ended.pen.view;
         read = x.read;
         listed = h.listed;
+        meets = (record { seen = b.ended.pen.view.seen; calls_are = refl }, (record { seen = a.ended.pen.view.seen; calls_are = refl }, tt));
         lost_are = b.lost_are ∙ ap (λ (z : State). lost_in z.kept.now) (sym x.admin_is);
         gathered = b.gathered;
         numbers = (

@@ -1,5 +1,5 @@
 -- A report's tables at the end of a phase over a board, as its root reads them between two settlements.
-use Rattle.std.specs.Prelude.{◌≡◌, ◌≤◌, ℕ, List, ◌∷◌, ◌++◌, All, map, slice_index}
+use Rattle.std.specs.Prelude.{◌≡◌, ◌≤◌, ℕ, List, [], ◌∷◌, ◌++◌, All, map, slice_index}
 use Rattle.std.specs.List.{flat_map}
 use Rattle.atomic_table.specs.Seated.{TableId}
 use Rattle.pfs_admin.specs.declared.changes.Change.{Change}
@@ -18,7 +18,7 @@ use Rattle.pfs_journal.specs.declared.values.TableReport.{TableReport}
 use Rattle.pfs_law_board.specs.EndReadings.{IsRead}
 use Rattle.pfs_law_board.specs.PhaseEnds.{IsQuiet}
 use Rattle.pfs_levels.specs.CallOrder.{AllCalls}
-use Rattle.pfs_levels.specs.Calls.{Call}
+use Rattle.pfs_levels.specs.Calls.{Call, Meets}
 use Rattle.pfs_reader.specs.Readings.{calls_of as calls_of_readings}
 use Rattle.pfs_readsets.specs.ReadSets.{IsReadSet}
 use Rattle.pfs_readsets.specs.TablePlaces.{scope_of}
@@ -54,8 +54,13 @@ pub record HasStayed (old new : RootView) : Type 0 where
   pub draws : new.draws ≡ old.draws
   pub whole : IsWhole new.seat × HasAllDraws new.draws
 
+-- an actor that met the writer of the setup words, and made no other call
+pub record HasMet (w : Worked) : Type 0 where
+  pub seen : List ℕ
+  pub calls_are : w.calls ≡ Meets seen ∷ []
+
 -- Behind these actors the root was told an end, read the tables of a report, and was told another end, which says what
--- was lost of containers. What it did itself are actors more, under its own number, which changed nothing and kept to
+-- was lost of containers. At each end it met the writer. What it did itself are actors more, under its own number, which changed nothing and kept to
 -- their words; so no row was changed since the first end, and no word is seen at a version below it
 pub record HasReadTables (setting : Setting) (change : Label → Change) (switches : TableId) (before : List Worked)
     (tables : List TableReport) (lost : Lost) (old new : RootView) : Type 0 where
@@ -64,6 +69,7 @@ pub record HasReadTables (setting : Setting) (change : Label → Change) (switch
   pub met : Worked
   pub read : IsRead setting change switches old.seat.start before own reads
   pub listed : AreListed setting tables reads.calls
+  pub meets : Each HasMet (met ∷ own)
   pub lost_are : lost ≡ lost_in read.last.admin.kept.now
   pub gathered : AreGathered (met ∷ (reads ∷ (own ++ before))) new.seat new.words new.draws
   pub numbers : Each (λ (w : Worked). w.start.board.number ≡ old.seat.number) (met ∷ (reads ∷ own))

@@ -1,5 +1,5 @@
 -- A run over a board before its first phase.
-use Rattle.std.proofs.Common.{ℕ, ◌≡◌, ◌≤◌, ◌+◌, ◌-◌, ◌*◌, ◌^◌, List, [], ◌∷◌, ◌++◌, None, Option, length, slice_index, replicate, refl, ap, sym, ◌∙◌, subst, arith}
+use Rattle.std.proofs.Common.{ℕ, ◌≡◌, ◌≤◌, ◌+◌, ◌-◌, ◌*◌, ◌^◌, List, [], ◌∷◌, ◌++◌, None, Option, inr, length, slice_index, replicate, refl, ap, sym, ◌∙◌, subst, arith}
 use Rattle.atomic_table.specs.Seated.{TableId}
 use Rattle.pfs_admin.specs.OpeningState.{opening_flags}
 use Rattle.pfs_admin.specs.declared.changes.Change.{Change}
@@ -8,6 +8,7 @@ use Rattle.pfs_board.specs.SeatViews.{Known as BoardKnown, Place as BoardPlace}
 use Rattle.pfs_board.specs.declared.view.Label.{Label}
 use Rattle.pfs_board.specs.declared.view.View.{View}
 use Rattle.pfs_board_opening.specs.Opened.{HaveOpened, first_root}
+use Rattle.pfs_board_phase.proofs.PhaseEnds.{IsTold}
 use Rattle.pfs_board_phase.specs.BetweenPhases.{IsBetweenPhases, IsSettled}
 use Rattle.pfs_board_root.specs.Roots.{RootView}
 use Rattle.pfs_board_root.specs.Settlements.{HasSettled, own_meet}
@@ -42,25 +43,30 @@ no_run = record { ended = []; spells = []; reports = [] }
 
 module _ (setting : Setting) (phases : List Phase) (flags : List ℕ) (run : TableId) (lost : Lost) (old new : RootView) (s : HasSettled setting (change_in phases) flags run [] lost old new) (first : old.seat.number ≡ 0)
     (whole : IsWhole new.seat) (draws : HasAllDraws new.draws) where
-  -- as if its seat were that of before, which it is
-  settled_as : IsSettled setting (change_in phases) run [] (record new { seat = old.seat })
-  settled_as = record {
-    own = own_meet flags old s.ended.pen.view ∷ [];
-    gathered = subst (λ (z : View). AreGathered (own_meet flags old s.ended.pen.view ∷ []) z new.words new.draws) s.seat s.gathered;
-    number = first;
-    alone = (record { number = first; quiet = tt }, tt);
-    keeps = (((λ some. absurd (omega (arith, some)), λ out. refl), tt), tt);
-    first = s.ended;
-    made = sym (ap (λ (z : View). z.made) s.seat_was);
-    seen = λ at low. omega (arith, ap (λ (z : WordView). slice_index z.seen at) s.words);
-    whole = subst IsWhole s.seat whole;
-    all_draws = draws;
-  }
-
   pub settled : IsSettled setting (change_in phases) run [] new
-  settled = subst (λ (z : View). IsSettled setting (change_in phases) run [] (record new { seat = z })) (sym s.seat) settled_as
+  settled =
+      let seat : old.seat ≡ new.seat = sym s.seat in
+      let told : IsTold setting (change_in phases) run new.seat.start [] new =
+      subst (λ (z : View). IsTold setting (change_in phases) run z.start [] (record new { seat = z })) seat (record {
+        first = s.ended;
+        made = sym (ap (λ (z : View). z.made) s.seat_was);
+        seen = λ at. omega (arith, ap (λ (z : WordView). slice_index z.seen at) s.words);
+      }) in
+      record {
+        own = own_meet flags old s.ended.pen.view ∷ [];
+        gathered = s.gathered;
+        number = ap (λ (z : View). z.number) s.seat ∙ first;
+        alone = (record { number = first; quiet = tt }, tt);
+        keeps = (((λ some. absurd (omega (arith, some)), λ out. refl), tt), tt);
+        first = told.first;
+        made = told.made;
+        seen = λ at low. told.seen at;
+        whole = whole;
+        all_draws = draws;
+      }
 
   pub begun_run : BeginLaw → IsRunsBoard old.seat.start → old.seat.seats ≡ 0 → 2 ^ 47 ≤ new.seat.allowance → 2 ^ 47 ≤ new.draws.draws → IsBetweenPhases setting phases run [] phases new (replicate 64 None) nothing_lost []
+  unfolding settled
   begun_run begin runs none spare tickets = record {
     limits = setting.in_range;
     board = subst (λ (z : View). IsRunsBoard z.start) (sym s.seat) runs;
@@ -69,7 +75,7 @@ module _ (setting : Setting) (phases : List Phase) (flags : List ℕ) (run : Tab
     told = refl;
     good = All-nil IsPhase;
     settled = settled;
-    by_number = record { seats = ap (λ (z : View). z.seats) s.seat ∙ none; theirs = refl };
+    by_number = record { seats = ap (λ (z : View). z.seats) s.seat ∙ none; theirs = inr (inr (first, record { seen = s.ended.pen.view.seen; calls_are = refl }, (refl, refl))) };
     spared = record { publications = omega (arith, spare); tickets = omega (arith, tickets) };
     wide = length-replicate {A = Option Book} 64 None;
     seated = λ session low high. subst (Sits setting phases [] [] session) (sym (get_or-replicate 64 (session - 1) None None (omega (arith, low, high)))) refl;

@@ -5,8 +5,8 @@ use Rattle.std.proofs.Math.Seq.{drop-cons}
 use Rattle.std.proofs.lemmas.List.{take_all, take_more, take-append-drop}
 use Rattle.atomic_table.specs.Seated.{TableId}
 use Rattle.pfs_admin.specs.OpeningState.{opening_flags}
-use Rattle.pfs_board_phase.proofs.SeatNumbers.{own_numbered}
 use Rattle.pfs_board_phase.specs.BetweenPhases.{IsBetweenPhases}
+use Rattle.pfs_board_phase.specs.SeatNumbers.{AreNumbered, newest_tables}
 use Rattle.pfs_board_root.specs.Roots.{RootView, root_of}
 use Rattle.pfs_board_store.specs.declared.rows.Seats.{Seats}
 use Rattle.pfs_classes.specs.declared.setting.Setting.{Setting}
@@ -69,6 +69,6 @@ module _ (setting : Setting) (phases : List Phase) (run : TableId) (root : RootV
           course = b.behind.course;
           told = subst (λ z. ArePhasesTold setting 1 phases z b.run.spells) (b.told ∙ sym told) b.behind.told;
           actors = b.settled.own ++ all_of b.run.ended;
-          by_number = own_numbered (actors_of b.run.spells) b.settled.own (all_of b.run.ended) b.settled.alone b.by_number.theirs;
+          by_number = subst (λ z. AreNumbered setting (newest_tables z) (actors_of b.run.spells) (b.settled.own ++ all_of b.run.ended)) (sym told) b.by_number.theirs;
           gathered = b.settled.gathered;
         }
