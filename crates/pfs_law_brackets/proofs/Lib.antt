@@ -1,4 +1,4 @@
 mod EventLines
-mod LineTags
+pub mod LineTags
 mod LineWalks
 mod SessionWalks

@@ -12,17 +12,17 @@ mod PhaseSummaries
 mod ConnectionNames
 mod SlotSessions
 mod FreedRows
-mod FirstTakes
-mod Removals
+pub mod FirstTakes
+pub mod Removals
 mod Covers
-mod EventMerges
+pub mod EventMerges
 mod JournalCounts
 mod RunSummaries
 mod DigestCounts
 mod DigestTable
 mod DigestPhases
 mod EndLines
-mod UnplacedDigests
+pub mod UnplacedDigests
 mod LostDigests
 mod Extremes
 mod RowNumbers

@@ -13,7 +13,7 @@ use Rattle.pfs_stat.specs.Stat.{zero_of}
 use Rattle.pfs_summaries.specs.RowValues.{values_of, times_of, sums_of}
 use Rattle.pfs_text.specs.declared.values.RowValue.{RowValue}
 use Rattle.pfs_text.specs.declared.values.RowValue.TheVariants as value
-use Rattle.pfs_law_summaries.specs.SummaryRows.{summary_row}
+use Rattle.pfs_law_summaries.specs.SummaryRows.{StandsBefore, summary_row}
 use Rattle.pfs_law_summaries.specs.SummaryExamples.{two_waits, one_statement, three_untimed, by_user, slots, waited, idle, user_row, session_rows, AreUsers, AreSessions, HasUser, HasSession, WorkedRows, WorkedSummaries}
 use Rattle.pfs_law_summaries.proofs.ListMembers.{first, later, contains_map, map_contains}
 
@@ -97,6 +97,7 @@ module _ (setting : Setting) (waits : is_class_of Waits (class_at setting.classe
     rows_are = refl;
     just = λ row. (λ c. subst (HasUser setting) (sym (All-contains (λ (row : Row). row ≡ user) (user ∷ []) row all_users c)) has_user, λ h. subst (Contains (user ∷ [])) (sym (user_row_is row h)) (first user []));
     once = one_each;
+    ascending = AllPairs-cons (StandsBefore setting.names) user [] (All-nil (StandsBefore setting.names user)) (λ i j d l m. absurd (omega (arith, l, m)));
   } where
     one_each : AllPairs (λ (a b : Row). a ≢ b) (user ∷ [])
     one_each = AllPairs-cons (λ (a b : Row). a ≢ b) user [] (All-nil (λ (b : Row). user ≢ b)) (λ i j d l m. absurd (omega (arith, l, m)))
@@ -112,6 +113,8 @@ module _ (setting : Setting) (waits : is_class_of Waits (class_at setting.classe
     rows_are = refl;
     just = λ row. (λ c. All-contains (HasSession setting) (first_one ∷ second_one ∷ []) row (All-cons (HasSession setting) first_one (second_one ∷ []) has_first (All-cons (HasSession setting) second_one [] has_second (All-nil (HasSession setting)))) c, λ h. only_session row.0 row.1 h);
     once = one_each;
+    ascending = AllPairs-cons (StandsBefore setting.names) first_one (second_one ∷ []) (All-cons (StandsBefore setting.names first_one) second_one [] (λ e. absurd (cc)) (All-nil (StandsBefore setting.names first_one)))
+        (AllPairs-cons (StandsBefore setting.names) second_one [] (All-nil (StandsBefore setting.names second_one)) (λ i j d l m. absurd (omega (arith, l, m))));
   } where
     apart : first_one ≢ second_one
     apart e = absurd (let w : 1 ≡ 2 = ap (λ (row : Row). number_in row.0) e in omega (arith, w))

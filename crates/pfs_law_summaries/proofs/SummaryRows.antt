@@ -1,17 +1,23 @@
 -- The rows of a summary are those of the keys and classes by which something was counted.
-use Rattle.std.proofs.Common.{◌≡◌, ℕ, ◌<◌, ◌==◌, ◌&&◌, Bool, true, false, cond, List, [], ◌∷◌, ◌++◌, map, filter, Option, Some, None, refl, sym, ap, subst, ◌∙◌, arith}
-use Rattle.std.specs.Prelude.{◌≢◌, ◌↔◌, ◌||◌, not, All, Contains, unwrap_or}
+use Rattle.std.proofs.Common.{◌≡◌, ℕ, ◌<◌, nat_lt, ◌==◌, ◌&&◌, Bool, true, false, cond, List, [], ◌∷◌, ◌++◌, map, filter, Option, Some, None, refl, sym, ap, subst, ◌∙◌, arith}
+use Rattle.std.specs.Prelude.{◌≢◌, ◌↔◌, ◌||◌, not, if◌then◌else◌, length, All, Contains, unwrap_or}
 use Rattle.std.specs.List.{AllByRecursion, AllPairs}
 use Rattle.std.specs.List.Sorted.{IsStrictlySortedBy}
 use Rattle.std.specs.Map.{keys_of}
-use Rattle.std.specs.Ordering.{ordering_reverse}
-use Rattle.std.specs.declared.cmp.Ordering.TheVariants.{Less, Greater}
+use Rattle.std.specs.Cmp.Lexicographic.{slice_cmp}
+use Rattle.std.specs.Option.{option_map}
+use Rattle.std.specs.Ordering.{nat_cmp, ordering_reverse, ordering_then}
+use Rattle.std.specs.declared.cmp.Ordering.{Ordering}
+use Rattle.std.specs.declared.cmp.Ordering.TheVariants.{Less, Equal, Greater}
 use Rattle.std.proofs.lemmas.List.Elements.{All-nil, All-cons, All-map, All-contains}
 use Rattle.std.proofs.lemmas.List.Kept.{AllPairs-cons}
-use Rattle.pfs_classes.specs.Registry.{class_at}
+use Rattle.pfs_classes.specs.Registry.{class_at, text_of}
 use Rattle.pfs_classes.specs.declared.setting.Setting.{Setting}
-use Rattle.pfs_conservation.specs.KindSummaries.{Key, KeyAll}
+use Rattle.pfs_conservation.specs.KindSummaries.{Key, KeyThread, KeyAccount, KeyUser, KeyHost, KeyAll}
 use Rattle.pfs_containers.specs.Connections.{State}
+use Rattle.pfs_containers.specs.declared.infos.AccountInfo.{AccountInfo}
+use Rattle.pfs_containers.specs.declared.infos.NameInfo.{NameInfo}
+use Rattle.pfs_containers.specs.declared.infos.ThreadInfo.{ThreadInfo}
 use Rattle.pfs_finals.specs.Finals.{count_place, is_zero_at, is_shown}
 use Rattle.pfs_readsets.specs.TablePlaces.{is_class_of}
 use Rattle.pfs_rows.specs.declared.table.SummaryTable.{SummaryTable}
@@ -20,7 +26,8 @@ use Rattle.pfs_rows.specs.declared.table.Table.TheVariants.{Summary}
 use Rattle.pfs_rows.specs.declared.table.TableKind.{TableKind}
 use Rattle.pfs_stat.specs.declared.Stat.{Stat}
 use Rattle.pfs_summaries.proofs.RowKeys.{row_cmp_total}
-use Rattle.pfs_summaries.specs.Heads.{head_of, places_of, heading_of, row_cmp}
+use Rattle.pfs_summaries.specs.FoundContents.{thread_at, account_at, user_at, host_at}
+use Rattle.pfs_summaries.specs.Heads.{account_head, user_head, host_head, head_of, places_of, heading_of, row_cmp}
 use Rattle.pfs_summaries.specs.RowValues.{times_of, sums_of, values_of, count_of}
 use Rattle.pfs_summaries.specs.Summaries.{class_text, numbers_of, is_skipped, is_listed, key_at as row_key, row_values, ordered_rows, IsGiven}
 use Rattle.pfs_summaries.specs.declared.heads.Head.{Head}
@@ -30,8 +37,8 @@ use Rattle.pfs_summaries.specs.declared.numbers.Numbers.TheVariants.{Times, Stat
 use Rattle.pfs_summaries.specs.declared.tallies.Tally.{Tally}
 use Rattle.pfs_text.specs.declared.values.RowValue.{RowValue}
 use Rattle.pfs_text.specs.declared.values.RowValue.TheVariants.{Number, Text}
-use Rattle.pfs_law_summaries.specs.SummaryKeys.{heading_of_key}
-use Rattle.pfs_law_summaries.specs.SummaryRows.{class_numbers, summary_row, HasRow, AreSummed}
+use Rattle.pfs_law_summaries.specs.SummaryKeys.{is_key_of, heading_of_key}
+use Rattle.pfs_law_summaries.specs.SummaryRows.{class_numbers, summary_row, HasRow, AreSummed, StandsBefore, ordered, order_of}
 use Rattle.pfs_law_summaries.proofs.MergedRows.{key_at, table_of}
 use Rattle.pfs_law_summaries.proofs.ListMembers.{first, later, contains_map, map_contains, contains_filter, filter_contains, each_contained, filter_mapped, map_agrees, map_map}
 
@@ -87,13 +94,87 @@ keys_each : (P : RowKey → Type 0) (rows : List Keyed) → AllByRecursion P (ke
 keys_each P [] h = All-nil (λ (r : Keyed). P r.0)
 keys_each P (row ∷ rows) h = All-cons (λ (r : Keyed). P r.0) row rows h.0 (keys_each P rows h.1)
 
-differ_mapped : {Y : Type 0} (f : Keyed → Y) (rows : List Keyed) → IsStrictlySortedBy row_cmp (keys_of rows) → ((a b : Keyed) → Contains rows a → Contains rows b → f a ≡ f b → a.0 ≡ b.0) → AllPairs (λ (a b : Y). a ≢ b) (map f rows)
+-- pairs of what the rows are mapped to
+pairs_mapped : {Y : Type 0} (R : Y → Y → Type 0) (f : Keyed → Y) (rows : List Keyed) → IsStrictlySortedBy row_cmp (keys_of rows) → ((a b : Keyed) → Contains rows a → Contains rows b → row_cmp a.0 b.0 ≡ Less → R (f a) (f b)) → AllPairs R (map f rows)
 unfolding IsStrictlySortedBy
-differ_mapped {Y} f [] h same = λ i j d l m. absurd (omega (arith, l, m))
-differ_mapped {Y} f (row ∷ rows) h same =
-    AllPairs-cons (λ (a b : Y). a ≢ b) (f row) (map f rows)
-    (All-map (λ (y : Y). f row ≢ y) f rows (each_contained (λ (r : Keyed). f row ≢ f r) rows (λ r c e. never_less r.0 (subst (λ k. row_cmp k r.0 ≡ Less) (same row r (first row rows) (later row rows r c) e) (All-contains (λ (r : Keyed). row_cmp row.0 r.0 ≡ Less) rows r (keys_each (λ y. row_cmp row.0 y ≡ Less) rows h.0) c)))))
-    (differ_mapped f rows h.1 (λ a b c d e. same a b (later row rows a c) (later row rows b d) e))
+pairs_mapped {Y} R f [] h each = λ i j d l m. absurd (omega (arith, l, m))
+pairs_mapped {Y} R f (row ∷ rows) h each =
+    AllPairs-cons R (f row) (map f rows)
+    (All-map (λ (y : Y). R (f row) y) f rows (each_contained (λ (r : Keyed). R (f row) (f r)) rows (λ r c. each row r (first row rows) (later row rows r c) (All-contains (λ (r : Keyed). row_cmp row.0 r.0 ≡ Less) rows r (keys_each (λ y. row_cmp row.0 y ≡ Less) rows h.0) c))))
+    (pairs_mapped R f rows h.1 (λ a b c d e. each a b (later row rows a c) (later row rows b d) e))
+
+-- ---- where a row stands, by its key
+
+ordered_same : (a b : ℕ) (c d e f : List ℕ) (id : ℕ) → a ≡ b → c ≡ d → e ≡ f → ordered a c e id ≡ ordered b d f id
+ordered_same a b c d e f id p q r = ap (λ n. ordered n c e id) p ∙ (ap (λ (l : List ℕ). ordered b l e id) q ∙ ap (λ (l : List ℕ). ordered b d l id) r)
+
+number_is : (a b : ℕ) (xs ys : List RowValue) → Number a ∷ xs ≡ Number b ∷ ys → a ≡ b
+number_is a b xs ys e = cc
+
+text_is : (a b : List ℕ) (xs ys : List RowValue) → Text a ∷ xs ≡ Text b ∷ ys → (a ≡ b) × (xs ≡ ys)
+text_is a b xs ys e = (cc, cc)
+
+-- what a head has besides what its rows begin with
+IsHeaded : SummaryTable → Head → Type 0
+IsHeaded ByThread head = (head.user ≡ []) × (head.host ≡ [])
+IsHeaded ByAccount head = head.thread_id ≡ 0
+IsHeaded ByUser head = (head.thread_id ≡ 0) × (head.host ≡ [])
+IsHeaded ByHost head = (head.thread_id ≡ 0) × (head.user ≡ [])
+IsHeaded Global head = (head.thread_id ≡ 0) × (head.user ≡ []) × (head.host ≡ [])
+
+headed : (which : SummaryTable) (names : List (List ℕ)) (infos : List (Option (List ℕ))) (place : ℕ) (head : Head) → head_of which names infos place ≡ Some head → IsHeaded which head
+unfolding IsHeaded
+headed ByThread names infos place head e = at (thread_at infos place) e where
+  at : (o : Option ThreadInfo) → option_map (λ (info : ThreadInfo). record { thread_id = info.session; user = []; host = []; stands = true }) o ≡ Some head → (head.user ≡ []) × (head.host ≡ [])
+  at None e = absurd (cc)
+  at (Some info) e = let s : record { thread_id = info.session; user = []; host = []; stands = true } ≡ head = cc in subst (λ (h : Head). (h.user ≡ []) × (h.host ≡ [])) s (refl, refl)
+headed ByAccount names infos place head e = at (account_at infos place) e where
+  at : (o : Option AccountInfo) → account_head names o ≡ Some head → head.thread_id ≡ 0
+  at None e = absurd (cc)
+  at (Some info) e = on (nat_lt info.user_name (length names) && nat_lt info.host_name (length names)) e where
+    on : (b : Bool) → (if b then Some (record { thread_id = 0; user = text_of names info.user_name; host = text_of names info.host_name; stands = not (info.current == 0) }) else None) ≡ Some head → head.thread_id ≡ 0
+    on true e = let s : record { thread_id = 0; user = text_of names info.user_name; host = text_of names info.host_name; stands = not (info.current == 0) } ≡ head = cc in subst (λ (h : Head). h.thread_id ≡ 0) s refl
+    on false e = absurd (cc)
+headed ByUser names infos place head e = at (user_at infos place) e where
+  at : (o : Option NameInfo) → user_head names o ≡ Some head → (head.thread_id ≡ 0) × (head.host ≡ [])
+  at None e = absurd (cc)
+  at (Some info) e = on (nat_lt info.name (length names)) e where
+    on : (b : Bool) → (if b then Some (record { thread_id = 0; user = text_of names info.name; host = []; stands = not (info.current == 0) }) else None) ≡ Some head → (head.thread_id ≡ 0) × (head.host ≡ [])
+    on true e = let s : record { thread_id = 0; user = text_of names info.name; host = []; stands = not (info.current == 0) } ≡ head = cc in subst (λ (h : Head). (h.thread_id ≡ 0) × (h.host ≡ [])) s (refl, refl)
+    on false e = absurd (cc)
+headed ByHost names infos place head e = at (host_at infos place) e where
+  at : (o : Option NameInfo) → host_head names o ≡ Some head → (head.thread_id ≡ 0) × (head.user ≡ [])
+  at None e = absurd (cc)
+  at (Some info) e = on (nat_lt info.name (length names)) e where
+    on : (b : Bool) → (if b then Some (record { thread_id = 0; user = []; host = text_of names info.name; stands = not (info.current == 0) }) else None) ≡ Some head → (head.thread_id ≡ 0) × (head.user ≡ [])
+    on true e = let s : record { thread_id = 0; user = []; host = text_of names info.name; stands = not (info.current == 0) } ≡ head = cc in subst (λ (h : Head). (h.thread_id ≡ 0) × (h.user ≡ [])) s (refl, refl)
+    on false e = absurd (cc)
+headed Global names infos place head e =
+    let s : record { thread_id = 0; user = []; host = []; stands = true } ≡ head = cc in subst (λ (h : Head). (h.thread_id ≡ 0) × (h.user ≡ []) × (h.host ≡ [])) s (refl, refl, refl)
+
+head_order : (which : SummaryTable) (names : List (List ℕ)) (head : Head) (key : Key) (id : ℕ) → is_key_of which key ≡ true → IsHeaded which head → heading_of which head ≡ heading_of_key names key
+    → ordered head.thread_id head.user head.host id ≡ order_of names key id
+unfolding IsHeaded
+head_order ByThread names head (KeyThread session slot) id k i h = ordered_same head.thread_id session head.user [] head.host [] id (number_is head.thread_id session [] [] h) i.0 i.1
+head_order ByAccount names head (KeyAccount user host) id k i h =
+    ordered_same head.thread_id 0 head.user (text_of names user) head.host (text_of names host) id i (text_is head.user (text_of names user) (Text head.host ∷ []) (Text (text_of names host) ∷ []) h).0
+    (text_is head.host (text_of names host) [] [] (text_is head.user (text_of names user) (Text head.host ∷ []) (Text (text_of names host) ∷ []) h).1).0
+head_order ByUser names head (KeyUser user) id k i h = ordered_same head.thread_id 0 head.user (text_of names user) head.host [] id i.0 (text_is head.user (text_of names user) [] [] h).0 i.1
+head_order ByHost names head (KeyHost host) id k i h = ordered_same head.thread_id 0 head.user [] head.host (text_of names host) id i.0 i.1 (text_is head.host (text_of names host) [] [] h).0
+head_order Global names head KeyAll id k i h = ordered_same head.thread_id 0 head.user [] head.host [] id i.0 i.1 i.2
+head_order which names head key id k i h = absurd (cc)
+
+-- whatever their places
+not_after : (a b c d p : Ordering) → ordering_then a (ordering_then b (ordering_then c (ordering_then d p))) ≡ Less → ordering_then a (ordering_then b (ordering_then c (ordering_then d Equal))) ≢ Greater
+not_after Greater b c d p e g = absurd (cc)
+not_after Less b c d p e g = absurd (cc)
+not_after Equal Greater c d p e g = absurd (cc)
+not_after Equal Less c d p e g = absurd (cc)
+not_after Equal Equal Greater d p e g = absurd (cc)
+not_after Equal Equal Less d p e g = absurd (cc)
+not_after Equal Equal Equal Greater p e g = absurd (cc)
+not_after Equal Equal Equal Less p e g = absurd (cc)
+not_after Equal Equal Equal Equal p e g = absurd (cc)
 
 -- ---- which rows stand
 
@@ -129,6 +210,7 @@ module _ (setting : Setting) (kind : TableKind) (which : SummaryTable) (IsKey : 
       in_places : row.0.place < places_of which
       class : is_class_of kind (class_at setting.classes row.0.class) ≡ true
       is : row.1 ≡ summary_row setting kind counts (key, row.0.class)
+      order : ordered row.0.thread_id row.0.user row.0.host row.0.class ≡ order_of setting.names key row.0.class
       shown : shows row ≡ not (count_of (class_numbers kind (counts key) row.0.class) == 0)
 
     and_first : (a b : Bool) → (a && b) ≡ true → a ≡ true
@@ -159,6 +241,8 @@ module _ (setting : Setting) (kind : TableKind) (which : SummaryTable) (IsKey : 
           in_places = subst (λ p. p < places_of which) (sym place_is) g.in_places;
           class = ap (λ id. is_class_of kind (class_at setting.classes id)) class_is ∙ of_kind;
           is = row_is ∙ ap (λ id. summary_row setting kind counts (key, id)) (sym class_is);
+          order = ap (λ (k : RowKey). ordered k.thread_id k.user k.host k.class) (ap (λ (r : Keyed). r.0) g.is)
+              ∙ (head_order which setting.names g.head key g.id (table_of s which g.place key q) (headed which setting.names infos g.place g.head g.opened) heading ∙ ap (order_of setting.names key) (sym class_is));
           shown = ap (is_shown (Summary kind which)) long ∙ (ap not (zero_shown which g.head (class_text setting.names (class_at setting.classes g.id)) (numbers_of kind (tally g.place) g.id))
               ∙ (ap (λ (n : Numbers). not (count_of n == 0)) same ∙ ap (λ id. not (count_of (class_numbers kind (counts key) id) == 0)) (sym class_is)));
         } where
@@ -292,11 +376,21 @@ module _ (setting : Setting) (kind : TableKind) (which : SummaryTable) (IsKey : 
               pairs : (a b : Head) (c d e f : ℕ) → a ≡ b → c ≡ d → e ≡ f → ◌≡◌ {A = Head × ℕ × ℕ} (a, c, e) (b, d, f)
               pairs a b c d e f p q r = cc
 
+    stands_before : (a b : Keyed) → Contains all a → Contains all b → row_cmp a.0 b.0 ≡ Less → StandsBefore setting.names (key_of a) (key_of b)
+    stands_before a b c d e =
+        subst (λ (k : RowKey). row_cmp k (order_of setting.names (key_of b).0 (key_of b).1) ≢ Greater) (sym (order_is a c))
+        (subst (λ (k : RowKey). row_cmp (ordered a.0.thread_id a.0.user a.0.host a.0.class) k ≢ Greater) (sym (order_is b d))
+        (not_after (nat_cmp a.0.thread_id b.0.thread_id) (slice_cmp nat_cmp a.0.user b.0.user) (slice_cmp nat_cmp a.0.host b.0.host) (nat_cmp a.0.class b.0.class) (nat_cmp a.0.place b.0.place) e)) where
+          order_is : (row : Keyed) → Contains all row → order_of setting.names (key_of row).0 (key_of row).1 ≡ ordered row.0.thread_id row.0.user row.0.host row.0.class
+          order_is row c = ap (λ (p : Key × ℕ). order_of setting.names p.0 p.1) (key_is row (of_row row c)) ∙ sym (of_row row c).order
+
     -- a row for each key and class by which something was counted
     pub summed : AreSummed setting kind which IsKey counts (filter (is_shown (Summary kind which)) (map (λ (r : Keyed). r.1) all))
     summed = record {
       keys = shown_keys;
       rows_are = rows_same;
       just = λ row. (has_row row, stands_there row);
-      once = differ_mapped key_of (filter shows all) (sorted_filter shows all sorted) (λ a b c d e. one_place a b (filter_contains shows all a c).0 (filter_contains shows all b d).0 e);
+      once = pairs_mapped (λ (a b : Key × ℕ). a ≢ b) key_of (filter shows all) (sorted_filter shows all sorted)
+          (λ a b c d e same. never_less b.0 (subst (λ k. row_cmp k b.0 ≡ Less) (one_place a b (filter_contains shows all a c).0 (filter_contains shows all b d).0 same) e));
+      ascending = pairs_mapped (StandsBefore setting.names) key_of (filter shows all) (sorted_filter shows all sorted) (λ a b c d e. stands_before a b (filter_contains shows all a c).0 (filter_contains shows all b d).0 e);
     }

@@ -1,0 +1,17 @@
+mod QuietLoads
+mod AlignedEvents
+mod StartFits
+mod SameVerdicts
+mod PhaseVerdicts
+mod PhaseCuts
+mod QuietVerdicts
+mod QuietRemovals
+mod QuietCounts
+mod QuietSums
+mod FirstRooms
+mod FirstEntries
+mod FirstRuns
+mod FirstFlags
+mod FirstPhases
+mod SameRows
+mod AgreedExamples
