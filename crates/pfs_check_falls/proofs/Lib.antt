@@ -1,0 +1,4 @@
+mod DeedLevels
+mod FirstFalls
+mod FloorSteps
+mod Predecessors

@@ -1,0 +1,2 @@
+pub mod DeedOrder
+pub mod FallenDeeds

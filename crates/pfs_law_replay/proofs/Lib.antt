@@ -1,0 +1,5 @@
+mod EarlierChanges
+mod Examples
+pub mod ReplayedContents
+pub mod RowChanges
+mod SingleChanges

@@ -1,0 +1,3 @@
+pub mod ContentReplays
+pub mod EarlierChanges
+pub mod SingleChanges
