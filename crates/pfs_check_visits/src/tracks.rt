@@ -68,6 +68,14 @@ impl Track for SessionTrack {
         self.trail.opened().innermost()
     }
 
+    fn statements(&self) -> u64 {
+        self.trail.opened().statements()
+    }
+
+    fn waits(&self) -> u64 {
+        self.trail.opened().waits()
+    }
+
     fn note(&mut self, line: &Line, entry: &Entry) -> Result<(), NoMemory> {
         self.trail.note(subject_in(line), entry)
     }

@@ -3,6 +3,7 @@
 ghost use Rattle.std.specs.Prelude.{ℕ, ◌≡◌, ◌≤◌, List, length, IfOk, OnOk};
 ghost use Rattle.pfs_model.specs.Contexts.{Context, noted, subject_of, after_entries};
 ghost use Rattle.pfs_model.specs.EntryPlaces.{Placed, placed_part};
+ghost use Rattle.pfs_model.specs.SetupFlags.{is_statement, is_wait, open_through};
 ghost use Rattle.pfs_check_faults.specs.ReportCases.{Case, Findings};
 ghost use Rattle.pfs_check_walk.specs.Walks.{IsTold, IsTracked, IsVisited, IsWalked, entries_between, first_opened, place_of};
 
@@ -35,6 +36,15 @@ pub trait Track {
     /// The innermost of its open events.
     fn innermost(&self) -> Option<Opened>
         ensures { (context : Context) → tells self.now context → result ≡ first_opened context };
+
+    /// How many let-through statements are open.
+    fn statements(&self) -> u64
+        ensures { (context : Context) → tells self.now context
+            → result ≡ open_through is_statement context.opened };
+
+    /// How many let-through waits are open.
+    fn waits(&self) -> u64
+        ensures { (context : Context) → tells self.now context → result ≡ open_through is_wait context.opened };
 
     /// One entry more of a line. Err where memory runs out.
     fn note(&mut self, line: &Line, entry: &Entry) -> Result<(), NoMemory>

@@ -1,0 +1,2 @@
+pub mod LineSpans
+pub mod OwedFacts

@@ -1,0 +1,2 @@
+pub mod DueRules
+pub mod OwedPuts
