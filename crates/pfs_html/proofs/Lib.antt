@@ -1,4 +1,5 @@
 mod EscapeLaws
+mod PhaseReadings
 mod PlaceLists
 mod RankOrders
 mod TableReadings

@@ -23,7 +23,7 @@ no_opening : (byte : ℕ) → is_plain byte ≡ true → (byte == 60) ≡ false
 no_opening byte plain = grind arith
 
 -- a text with no `<` before something
-cut_plain : (text rest : List ℕ) → list_all is_plain text ≡ true → cut (text ++ rest) ≡ (text ++ (cut rest).0, (cut rest).1)
+pub cut_plain : (text rest : List ℕ) → list_all is_plain text ≡ true → cut (text ++ rest) ≡ (text ++ (cut rest).0, (cut rest).1)
 cut_plain [] rest plain = refl
 cut_plain (byte ∷ text) rest plain =
     let both = and_parts (is_plain byte) (list_all is_plain text) plain in

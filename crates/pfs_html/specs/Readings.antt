@@ -1,6 +1,7 @@
 -- How a reader of a page takes a table apart.
-use Rattle.std.specs.Prelude.{ℕ, ◌==◌, nat_eq, Bool, ◌||◌, if◌then◌else◌, List, [], ◌∷◌, codes}
+use Rattle.std.specs.Prelude.{ℕ, ◌==◌, nat_eq, Bool, ◌||◌, if◌then◌else◌, List, [], ◌∷◌, ◌++◌, codes, decimal}
 use Rattle.std.specs.List.{starts_with}
+use Rattle.pfs_journal.specs.declared.report.PhaseParts.{PhaseParts}
 use Rattle.pfs_html.specs.Escapes.{seen}
 
 -- what stands before the first `<`, and what behind each: of `a<td>b</td>` this is `a`, and `td>b` and `/td>`
@@ -39,3 +40,18 @@ groups_of html = grouped (cut html).1
 -- the rows of a table, each as the texts of its cells; the row of the headings is one of them
 abbrev pub rows_seen : List ℕ → List (List (List ℕ))
 rows_seen html = (groups_of html).1
+
+-- the texts behind the tags that begin so, in their order
+abbrev pub found_more : List ℕ → List ℕ → List (List ℕ) → List (List ℕ)
+found_more name tag more = if starts_with nat_eq tag name then seen (behind_tag tag) ∷ more else more
+
+abbrev pub found : List ℕ → List (List ℕ) → List (List ℕ)
+found name [] = []
+found name (tag ∷ tags) = found_more name tag (found name tags)
+
+-- the headings of the phases of a page
+abbrev pub phases_seen : List ℕ → List (List ℕ)
+phases_seen html = found (codes "h2>") (cut html).1
+
+abbrev pub phase_title : PhaseParts → List ℕ
+phase_title phase = codes "Phase " ++ decimal phase.number

@@ -3,6 +3,7 @@
 ghost use Rattle.std.specs.Prelude.{ℕ, List, ◌≡◌, ◌<◌, ◌^◌, ◌∷◌, length, map, true};
 ghost use Rattle.std.specs.List.{All, list_all};
 ghost use Rattle.std.specs.List.Sorted.{IsPermutation};
+ghost use Rattle.pfs_journal.specs.declared.report.PhaseParts.{PhaseParts};
 ghost use Rattle.pfs_text.specs.declared.values.RowValue.{RowValue};
 ghost use Rattle.pfs_view.specs.ColumnHeadings.{heading_text};
 ghost use Rattle.pfs_view.specs.Grids.{cell_text};
@@ -11,7 +12,8 @@ ghost use Rattle.pfs_view.specs.declared.columns.Times.TheVariants.{Units};
 ghost use Rattle.pfs_html.specs.Cells.{places_below};
 ghost use Rattle.pfs_html.specs.Escapes.{escaped, is_plain, seen};
 ghost use Rattle.pfs_html.specs.Rankings.{Falls, by_time, number_at, time_at};
-ghost use Rattle.pfs_html.specs.Readings.{rows_seen};
+ghost use Rattle.pfs_html.specs.Pages.{phases_html};
+ghost use Rattle.pfs_html.specs.Readings.{phase_title, phases_seen, rows_seen};
 ghost use Rattle.pfs_html.specs.Tables.{all_places, table_html};
 
 /// Whatever a text has, no byte of it in a page can end a cell or a tag's value, or begin a tag.
@@ -37,4 +39,9 @@ pub fn tables_are_seen()
     ensures { (headings : Headings) (rows : List (List RowValue)) → rows_seen (table_html headings rows)
         ≡ map (heading_text headings) (all_places headings rows)
         ∷ map (λ row. map (cell_text headings Units row) (places_below (length row))) rows }
+{}
+
+/// A reader of a page's phases sees a heading for each, in the report's order, and no other heading of a phase.
+pub fn phases_stand_in_order()
+    ensures { (phases : List PhaseParts) → phases_seen (phases_html phases) ≡ map phase_title phases }
 {}
