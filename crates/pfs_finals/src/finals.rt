@@ -116,8 +116,9 @@ fn keep_shown(alloc: Global, table: Table, rows: Rowset) -> Result<Rowset, NoMem
     Ok(Rowset::new(kept))
 }
 
-// The rows of a table in a report.
-fn shown_rows(
+/// The rows of a table in a report, by the readings of its read set: its listed rows, of a summary without those whose
+/// COUNT_STAR is 0. Err where memory runs out.
+pub fn shown_rows(
     alloc: Global,
     setting: &Setting,
     table: Table,
@@ -129,8 +130,8 @@ fn shown_rows(
     keep_shown(alloc, table, rows)
 }
 
-// Puts a table behind the others, where it has rows.
-fn add_table(
+/// Puts a table behind the others, where it has rows. Err where memory runs out.
+pub fn add_table(
     alloc: Global,
     table: Table,
     rows: Rowset,

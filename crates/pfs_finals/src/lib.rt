@@ -5,7 +5,7 @@ mod counters;
 mod finals;
 
 pub use counters::{Counter, LostCounters, lost_rows};
-pub use finals::{FINAL_TABLES, final_tables};
+pub use finals::{FINAL_TABLES, add_table, final_tables, shown_rows};
 
 /// Memory ran out.
 pub type NoMemory = std::alloc::AllocError;
