@@ -1,17 +1,17 @@
-mod ActedEntries
+pub mod ActedEntries
 mod AnswersKept
 mod BlockCuts
-mod ChainFacts
+pub mod ChainFacts
 mod EntryFacts
 mod FaultExamples
 mod KeptRules
-mod MemberCounts
+pub mod MemberCounts
 mod MovesKept
 mod OneJudgement
 mod OneLabels
 mod RisingFacts
 mod RunRules
-mod SetCounts
-mod SetsOnce
+pub mod SetCounts
+pub mod SetsOnce
 mod SlotFacts
 mod TicketFacts

@@ -34,7 +34,7 @@ is_flag word (Gave row from) = false
 is_flag word (Freed row) = false
 is_flag word (Tagged row) = false
 
-flags_times : (word : ℕ) (sets : List Flagging) → times (is_flag word) (flagged_by sets) ≡ times (λ (one : Flagging). one.word == word) sets
+pub flags_times : (word : ℕ) (sets : List Flagging) → times (is_flag word) (flagged_by sets) ≡ times (λ (one : Flagging). one.word == word) sets
 flags_times word [] = refl
 flags_times word (one ∷ others) = ap (λ z. cond (one.word == word) 1 0 + z) (flags_times word others)
 
@@ -50,7 +50,7 @@ acts_here word number action b e (says.Set at version flags) = by b e (at == wor
 acts_here word number action true e _ = refl
 acts_here word number action false e _ = refl
 
-acts_times : (word number : ℕ) (ps : List Placed)
+pub acts_times : (word number : ℕ) (ps : List Placed)
     → times (by_action word number) (sets_of ps) ≡ times (is_flag word) (each_of flagging_at (of_action number ps))
 acts_times word number [] = refl
 acts_times word number (p ∷ ps) = at (p.context.action == number) refl (acts_times word number ps)
@@ -79,13 +79,13 @@ bits_more : (r : Bool) (action m : ℕ)
 bits_more false action m = refl
 bits_more true action m = grind (arith, nat_tests)
 
-earlier_more : (word m : ℕ) (deeds : List Deed)
+pub earlier_more : (word m : ℕ) (deeds : List Deed)
     → times (by_earlier word (suc m)) deeds ≡ times (by_action word (suc m)) deeds + times (by_earlier word m) deeds
 earlier_more word m [] = refl
 earlier_more word m (deed ∷ deeds) =
     omega (arith, bits_more (deed.row == word) deed.action m, earlier_more word m deeds)
 
-none_earlier : (word : ℕ) (deeds : List Deed) → times (by_earlier word 0) deeds ≡ 0
+pub none_earlier : (word : ℕ) (deeds : List Deed) → times (by_earlier word 0) deeds ≡ 0
 none_earlier word [] = refl
 none_earlier word (deed ∷ deeds) = omega (arith, bit (deed.row == word) deed.action, none_earlier word deeds) where
   bit : (r : Bool) (action : ℕ) → cond {A = ℕ} (r && (nat_lt 0 action && nat_le action 0)) 1 0 ≡ 0
@@ -93,7 +93,7 @@ none_earlier word (deed ∷ deeds) = omega (arith, bit (deed.row == word) deed.a
   bit true action = grind (arith, nat_tests)
 
 -- so many sets are asked for by the actions up to one as they have
-earlier_asked : (asked : ℕ → Asked) (all : List Placed) → SetAsAsked asked all → (word m : ℕ)
+pub earlier_asked : (asked : ℕ → Asked) (all : List Placed) → SetAsAsked asked all → (word m : ℕ)
     → times (by_earlier word m) (sets_of all) ≡ sets_asked asked word m
 earlier_asked asked all set word zero = none_earlier word (sets_of all)
 earlier_asked asked all set word (suc m) =
@@ -105,7 +105,7 @@ earlier_asked asked all set word (suc m) =
     omega (arith, more, here, rest)
 
 -- deeds and changes are counted alike
-deeds_changes : (test : ℕ → ℕ → Bool) (ps : List Placed)
+pub deeds_changes : (test : ℕ → ℕ → Bool) (ps : List Placed)
     → times (λ (deed : Deed). test deed.row deed.version) (sets_of ps) ≡ times (λ (change : Change). test change.row change.version) (each_of word_change ps)
 deeds_changes test [] = refl
 deeds_changes test (p ∷ ps) =
@@ -118,11 +118,11 @@ deeds_changes test (p ∷ ps) =
       here (says.Set word version flags) = refl
       here _ = refl
 
-whole_chain : (all : List Placed) → AreChained word_change all → IsChained (each_of word_change all)
+pub whole_chain : (all : List Placed) → AreChained word_change all → IsChained (each_of word_change all)
 whole_chain all chained = subst (λ z. IsChained (each_of word_change z)) (all_phases all) (chained (top all))
 
 -- of a word that has a set at version m + 1, m have a lower one
-versions_below : (cs : List Change) → IsChained cs → (word m : ℕ) → 0 < times (is_that (change_at word (m + 1))) cs
+pub versions_below : (cs : List Change) → IsChained cs → (word m : ℕ) → 0 < times (is_that (change_at word (m + 1))) cs
     → times (λ (c : Change). (c.row == word) && nat_le c.version m) cs ≡ m
 versions_below cs chain word m some =
     sym (rows_below word m cs (each_among _ cs positive)) ∙ upto_ones m _ one where
@@ -145,7 +145,7 @@ versions_below cs chain word m some =
         bit n h = grind (arith, nat_tests)
 
 -- a set is by an action
-deed_positive : (ps : List Placed) → Each HasAction ps → (deed : Deed) → IsAmong deed (sets_of ps) → 0 < deed.action
+pub deed_positive : (ps : List Placed) → Each HasAction ps → (deed : Deed) → IsAmong deed (sets_of ps) → 0 < deed.action
 deed_positive [] h deed i = absurd i
 deed_positive (p ∷ ps) h deed i = at p.entry h.0 i (deed_positive ps h.1 deed) where
   at : (entry : Entry) → (is_acted entry ≡ true → 0 < p.context.action) → IsAmong deed (set_at p.context.action entry ++ sets_of ps)
@@ -163,7 +163,7 @@ pub record AreSets (asked : ℕ → Asked) (all : List Placed) : Type 0 where
   pub once : (number word : ℕ) → times (λ (one : Flagging). one.word == word) (asked number).sets ≤ 1
 
 -- of two sets of a word the one with the lower version is by the lower action
-same_order : (asked : ℕ → Asked) (all : List Placed) → AreSets asked all → (word m k : ℕ) (own : Deed) → IsAmong own (sets_of all)
+pub same_order : (asked : ℕ → Asked) (all : List Placed) → AreSets asked all → (word m k : ℕ) (own : Deed) → IsAmong own (sets_of all)
     → own.row ≡ word → own.version ≡ m + 1 → own.action ≡ k + 1 → (deed : Deed) → IsAmong deed (sets_of all)
     → up_to_version word m deed ≡ by_earlier word k deed
 same_order asked all h word m k own i row version action deed j = at (deed.row == word) refl where
@@ -234,7 +234,7 @@ same_order asked all h word m k own i row version action deed j = at (deed.row =
           high (omega (arith, most, action))
 
 -- a set has the version behind those of the actions before it
-next_version : (asked : ℕ → Asked) (all : List Placed) → AreSets asked all → (m k : ℕ) (own : Deed) → IsAmong own (sets_of all)
+pub next_version : (asked : ℕ → Asked) (all : List Placed) → AreSets asked all → (m k : ℕ) (own : Deed) → IsAmong own (sets_of all)
     → own.version ≡ m + 1 → own.action ≡ k + 1 → own.version ≡ sets_asked asked own.row k + 1
 next_version asked all h m k own i version action =
     let some : 0 < times (at_version own.row (m + 1)) (sets_of all) =
@@ -250,7 +250,7 @@ next_version asked all h m k own i version action =
     (same_order asked all h own.row m k own i refl version action) in
     omega (arith, version, below, deeds, order, earlier_asked asked all h.set own.row k)
 
-set_version : (asked : ℕ → Asked) (all : List Placed) → AreSets asked all → (number : ℕ) (own : Deed) → IsAmong own (sets_of all)
+pub set_version : (asked : ℕ → Asked) (all : List Placed) → AreSets asked all → (number : ℕ) (own : Deed) → IsAmong own (sets_of all)
     → own.action ≡ number → own.version ≡ sets_asked asked own.row (number - 1) + 1
 set_version asked all h number own i action =
     next_version asked all h (own.version - 1) (number - 1) own i (omega (arith, above)) (omega (arith, positive, action)) where
@@ -268,7 +268,7 @@ set_version asked all h number own i action =
             low v e = grind (arith, nat_tests)
 
 -- the sets that are due for what was done
-due_of : (ℕ → Asked) → ℕ → List Did → List Setting
+pub due_of : (ℕ → Asked) → ℕ → List Did → List Setting
 due_of asked number [] = []
 due_of asked number (Flagged word flags ∷ others) = record {
   action = number;
@@ -281,7 +281,7 @@ due_of asked number (Gave row from ∷ others) = due_of asked number others
 due_of asked number (Freed row ∷ others) = due_of asked number others
 due_of asked number (Tagged row ∷ others) = due_of asked number others
 
-due_flags : (asked : ℕ → Asked) (number : ℕ) (sets : List Flagging) → due_of asked number (flagged_by sets) ≡ sets_due_of asked number sets
+pub due_flags : (asked : ℕ → Asked) (number : ℕ) (sets : List Flagging) → due_of asked number (flagged_by sets) ≡ sets_due_of asked number sets
 unfolding due_of
 due_flags asked number [] = refl
 due_flags asked number (one ∷ others) = ap (λ z. record {
@@ -291,7 +291,7 @@ due_flags asked number (one ∷ others) = ap (λ z. record {
   flags = one.flags;
 } ∷ z) (due_flags asked number others)
 
-settings_due : (asked : ℕ → Asked) (number : ℕ) (ps : List Placed)
+pub settings_due : (asked : ℕ → Asked) (number : ℕ) (ps : List Placed)
     → ((own : Deed) → IsAmong own (sets_of ps) → own.action ≡ number → own.version ≡ sets_asked asked own.row (number - 1) + 1)
     → settings_of (of_action number ps) ≡ due_of asked number (each_of flagging_at (of_action number ps))
 unfolding due_of

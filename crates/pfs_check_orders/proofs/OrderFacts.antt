@@ -14,6 +14,7 @@ use Rattle.pfs_admin.specs.SetupStatements.{has_changed, work_of_statement}
 use Rattle.pfs_admin.specs.WordChanges.{flags_changed, words_changed}
 use Rattle.pfs_board.specs.declared.view.Label.{Label}
 use Rattle.pfs_classes.specs.declared.setting.Setting.{Setting}
+use Rattle.pfs_containers.specs.ContainerState.{lost_in}
 use Rattle.pfs_event.specs.declared.entry.Entry.{Entry}
 use Rattle.pfs_event.specs.Logs.{Journal}
 use Rattle.pfs_admin.specs.Works.{no_work}
@@ -41,8 +42,9 @@ part_behind front back all start end e s f =
 pub is_next : (s : State) (session : ℕ) (what : Change) (head : List Entry) (n : ℕ) (old new : Journal) (order : Order)
     → length head ≡ n → IsAsked (work_for s session what) s.words head old new → order.start ≡ length old.entries + n
     → order.end ≡ length new.entries → rooms_of order.placed ≡ rooms_for s session what
-    → answer_by order.reply ≡ answer_to s what → IsNext s session what old.entries new.entries order
-is_next s session what head n old new order few asked start end rooms answer = record {
+    → answer_by order.reply ≡ answer_to s what → order.lost ≡ lost_in (stepped s session what).kept.now
+    → IsNext s session what old.entries new.entries order
+is_next s session what head n old new order few asked start end rooms answer lost = record {
   more = head ++ asked.asked;
   grown = asked.grown;
   order_is = record {
@@ -50,6 +52,7 @@ is_next s session what head n old new order few asked start end rooms answer = r
     asked = subst (AreAsked (work_for s session what) s.words) (sym part) asked.are;
     rooms = rooms;
     answer = answer;
+    lost = lost;
   };
 } where
   part : entries_in new.entries order ≡ asked.asked
@@ -106,6 +109,7 @@ order_stays s session what entries more order is = record {
   asked = subst (AreAsked (work_for s session what) s.words) (sym (part_stays entries more order is.within)) is.asked;
   rooms = is.rooms;
   answer = is.answer;
+  lost = is.lost;
 }
 
 -- of the elements of a list with one more behind it: it is one of those before, or the last

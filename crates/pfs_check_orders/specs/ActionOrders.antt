@@ -1,12 +1,14 @@
--- What is kept of the actions of a run: of each all that it may ask for, where it finds room, and what it is answered.
+-- What is kept of the actions of a run: of each all that it may ask for, where it finds room, what it is answered, and
+-- what was lost up to its end.
 use Rattle.std.specs.Prelude.{ℕ, ◌≡◌, ◌+◌, ◌-◌, ◌<◌, ◌≤◌, List, ◌++◌, drop, length, slice_get, take, Some}
 use Rattle.std.specs.List.{flat_map}
 use Rattle.pfs_admin.specs.declared.changes.Change.{Change}
 use Rattle.pfs_admin.specs.declared.changes.Change.TheVariants as changes
 use Rattle.pfs_admin.specs.AdministrationStates.{State}
-use Rattle.pfs_admin.specs.Fold.{state_of}
+use Rattle.pfs_admin.specs.Fold.{state_of, stepped}
 use Rattle.pfs_board.specs.declared.view.Label.{Label}
 use Rattle.pfs_classes.specs.declared.setting.Setting.{Setting}
+use Rattle.pfs_containers.specs.ContainerState.{lost_in}
 use Rattle.pfs_event.specs.declared.entry.Entry.{Entry}
 use Rattle.pfs_law_session.specs.Demands.{answer_by, rooms_of}
 use Rattle.pfs_model.specs.ActionAsks.{asked_of, did}
@@ -32,6 +34,7 @@ pub record IsOrder (s : State) (session : ℕ) (what : Change) (entries : List E
   pub asked : AreAsked (work_for s session what) s.words (entries_in entries order)
   pub rooms : rooms_of order.placed ≡ rooms_for s session what
   pub answer : answer_by order.reply ≡ answer_to s what
+  pub lost : order.lost ≡ lost_in (stepped s session what).kept.now
 
 -- an order whose entries stand behind these
 pub record IsNext (s : State) (session : ℕ) (what : Change) (old new : List Entry) (order : Order) : Type 0 where

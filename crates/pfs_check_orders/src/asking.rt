@@ -18,6 +18,7 @@ use pfs_admin::{Admin, Change, Placed, Reply, SetupStatement, Truncation};
 use pfs_check_blank::{
     Blank, ask_connect, ask_delete, ask_insert, ask_quit, ask_truncation, ask_update,
 };
+use pfs_containers::Lost;
 use pfs_levels::Log;
 use pfs_names::NameId;
 
@@ -33,17 +34,19 @@ fn nowhere() -> Placed
 }
 
 // An action without places, whose entries begin there.
-fn order_from(start: usize, log: &Log, reply: Reply) -> Order
+fn order_from(start: usize, log: &Log, reply: Reply, lost: Lost) -> Order
     ensures start { result.start ≡ start }
     ensures end { result.end ≡ length log.now.entries }
     ensures placed { rooms_of result.placed ≡ no_rooms }
     ensures reply { result.reply ≡ reply }
+    ensures lost { result.lost ≡ lost }
 {
     Order {
         start,
         end: log.count(),
         placed: nowhere(),
         reply,
+        lost,
     }
 }
 
@@ -65,11 +68,13 @@ fn connect(
 {
     let start = log.count() + 1;
     let placed = ask_connect(admin, blank, session, user, host, log);
+    let lost = admin.lost();
     Order {
         start,
         end: log.count(),
         placed,
         reply: Reply::Changed(0),
+        lost,
     }
 }
 
@@ -83,7 +88,8 @@ fn quit(admin: &mut Admin, blank: &mut Blank, log: &mut Log, session: u64) -> Or
 {
     let start = log.count();
     ask_quit(admin, blank, session, log);
-    order_from(start, log, Reply::Changed(0))
+    let lost = admin.lost();
+    order_from(start, log, Reply::Changed(0), lost)
 }
 
 fn truncate(
@@ -103,7 +109,8 @@ fn truncate(
     let _ = session;
     let start = log.count();
     ask_truncation(admin, blank, what, log);
-    order_from(start, log, Reply::Changed(0))
+    let lost = admin.lost();
+    order_from(start, log, Reply::Changed(0), lost)
 }
 
 // What a statement on the setup tables is answered. Err where memory runs out for a copy of a new row.
@@ -152,7 +159,8 @@ fn change(
     let _ = session;
     let start = log.count();
     let reply = reply_to(admin, blank, log, what)?;
-    Ok(order_from(start, log, reply))
+    let lost = admin.lost();
+    Ok(order_from(start, log, reply, lost))
 }
 
 /// An action of a session in the administration: the log gets all that it may ask for. Err where memory runs out for a

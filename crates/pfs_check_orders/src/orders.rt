@@ -1,6 +1,7 @@
 //! What is kept of each action.
 
 use pfs_admin::{Placed, Reply};
+use pfs_containers::Lost;
 use pfs_event::Log;
 
 /// What is kept of an action.
@@ -14,6 +15,8 @@ pub struct Order {
     pub placed: Placed,
     /// What it is answered; no rows where it has no answer.
     pub reply: Reply,
+    /// What was lost of threads, accounts, users and hosts up to its end.
+    pub lost: Lost,
 }
 
 /// What is kept of all actions.

@@ -1,5 +1,5 @@
 -- The fifth rule of an entry, and of a report.
-use Rattle.std.proofs.Common.{◌≡◌, refl, ℕ, zero, suc, ◌<◌, ◌≤◌, nat_lt, Bool, true, false, ◌&&◌, List, [], ◌∷◌, ◌++◌, sym, ◌∙◌, ap, subst, arith, append_assoc, Option, Some, None}
+use Rattle.std.proofs.Common.{◌≡◌, refl, ℕ, ◌<◌, ◌≤◌, nat_lt, Bool, true, false, ◌&&◌, List, [], ◌∷◌, ◌++◌, sym, ◌∙◌, ap, subst, arith, append_assoc, Option, Some, None}
 use Rattle.std.proofs.lemmas.Bool.{ltb-false, ltb-true}
 use Rattle.pfs_journal.specs.declared.report.ReportParts.{ReportParts}
 use Rattle.pfs_model.specs.declared.changes.Change.{Change}
@@ -18,8 +18,8 @@ use Rattle.pfs_check_seen.specs.SeenRules.{in_order, slot_test}
 use Rattle.pfs_check_visits.specs.ReportVisits.{IsAsked}
 use Rattle.pfs_check_visits.specs.Visits.{AreVisited}
 use Rattle.pfs_check_visits.specs.declared.visited.Visited.{Visited}
-use Rattle.pfs_check_visits.specs.declared.visited.Visited.TheVariants.{Kept, Lacking}
-use Rattle.pfs_check_walk.specs.Walks.{LacksFirst, onto}
+use Rattle.pfs_check_visits.proofs.EntryCounts.{all_known}
+use Rattle.pfs_check_walk.specs.Walks.{onto}
 
 pub tells_true : (fact : Type 0) (b : Bool) → Tells fact b → b ≡ true → fact
 tells_true fact true t e = t
@@ -60,18 +60,8 @@ order_onto earlier [] = sym (none (in_order earlier)) where
   none (x ∷ xs) = ap (λ z. x ∷ z) (none xs)
 order_onto earlier (p ∷ ps) = order_onto (p ∷ earlier) ps ∙ append_assoc (in_order earlier) (p ∷ []) ps
 
-all_in_order : (all : List Placed) → in_order (onto [] all) ≡ all
+pub all_in_order : (all : List Placed) → in_order (onto [] all) ≡ all
 all_in_order all = order_onto [] all
-
-none_lack : (earlier places : List Placed) (at : ℕ) → LacksFirst (λ earlier place. Unit {0}) earlier places at → ⊥
-none_lack earlier [] at l = l
-none_lack earlier (p ∷ ps) zero l = l tt
-none_lack earlier (p ∷ ps) (suc at) l = none_lack (p ∷ earlier) ps at l.1
-
-all_known : (all : List Placed) (knows : List Placed → Type 0) (told : Type 0) (visited : Visited)
-    → AreVisited (λ earlier place. Unit {0}) [] all knows told visited → knows (onto [] all)
-all_known all knows told (Kept count) v = v.0.known
-all_known all knows told (Lacking at) v = absurd (none_lack [] all at v)
 
 pub collected_all : (found : Findings) (all : List Placed) (collected : Collected) (told : Type 0) (visited : Visited) → entries_of found ≡ all
     → AreVisited (λ earlier place. Unit {0}) [] all (λ earlier. AreCollected (in_order earlier) collected) told visited

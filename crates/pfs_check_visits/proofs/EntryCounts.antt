@@ -22,9 +22,11 @@ use Rattle.pfs_check_faults.specs.ShapeFaults.{IsCut}
 use Rattle.pfs_check_line_numbers.specs.LineCounts.{result_lines}
 use Rattle.pfs_check_line_numbers.proofs.EntryNumbers.{journal_count, lines_rise, no_result, where_append}
 use Rattle.pfs_check_walk.proofs.EntryWalks.{first_lacks, none_before}
-use Rattle.pfs_check_walk.specs.Walks.{LacksFirst}
+use Rattle.pfs_check_walk.specs.Walks.{LacksFirst, onto}
 use Rattle.pfs_check_visits.specs.ReportVisits.{IsAsked, IsFirstLacking}
-use Rattle.pfs_check_visits.specs.Visits.{AreKept}
+use Rattle.pfs_check_visits.specs.Visits.{AreKept, AreVisited}
+use Rattle.pfs_check_visits.specs.declared.visited.Visited.{Visited}
+use Rattle.pfs_check_visits.specs.declared.visited.Visited.TheVariants.{Kept, Lacking}
 use Rattle.pfs_check_visits.proofs.LineVisits.{placed_length}
 
 lines_count : (phase session : ℕ) (context : Context) (lines : List Line) (parts : List (List Entry)) → AreShaped context lines parts
@@ -169,3 +171,14 @@ line_lacking phases report blocks rule knows at None cut l e =
       some_at [] i h e = absurd (omega (arith, h))
       some_at (x ∷ xs) zero h e = cc
       some_at (x ∷ xs) (suc i) h e = some_at xs i (omega (arith, h)) e
+
+-- where nothing is asked, all are known
+none_lack : (earlier places : List Placed) (at : ℕ) → LacksFirst (λ earlier place. Unit {0}) earlier places at → ⊥
+none_lack earlier [] at l = l
+none_lack earlier (p ∷ ps) zero l = l tt
+none_lack earlier (p ∷ ps) (suc at) l = none_lack (p ∷ earlier) ps at l.1
+
+pub all_known : (all : List Placed) (knows : List Placed → Type 0) (told : Type 0) (visited : Visited)
+    → AreVisited (λ earlier place. Unit {0}) [] all knows told visited → knows (onto [] all)
+all_known all knows told (Kept count) v = v.0.known
+all_known all knows told (Lacking at) v = absurd (none_lack [] all at v)

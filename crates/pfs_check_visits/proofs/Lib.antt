@@ -1,4 +1,4 @@
 mod BlockVisits
-mod EntryCounts
+pub mod EntryCounts
 mod LineVisits
 mod VisitSteps
