@@ -1,5 +1,5 @@
 -- How a call ends, from how its parts end.
-use Rattle.std.proofs.Common.{ℕ, ◌≡◌, ◌≤◌, ◌<◌, ◌⊎◌, inl, inr, List, length, Option, Some, None, IfSome, Result, Ok, Err, IfErr, IfOk, OnOk, ap, subst, refl, arith}
+use Rattle.std.proofs.Common.{ℕ, ◌≡◌, ◌≤◌, ◌<◌, ◌⊎◌, inl, inr, List, length, Option, Some, None, IfSome, Result, Ok, Err, IfErr, IfOk, OnOk, ap, subst, sym, refl, arith}
 use Rattle.std.specs.Prelude.{String}
 use Rattle.std.specs.declared.alloc.Global.{Global}
 use Rattle.pfs_outside.specs.DeviceCalls.{Rose, Added}
@@ -19,6 +19,7 @@ use Rattle.pfs_journal.specs.Reports.{IsReport}
 use Rattle.pfs_journal.specs.ReportLines.{FitsReport}
 use Rattle.pfs_journal.specs.Spelling.{spelling}
 use Rattle.pfs_journal.specs.declared.report.ReportParts.{ReportParts}
+use Rattle.pfs_law_load.specs.OneText.{IsLoadText, OneTextLaw}
 use Rattle.pfs_law_summaries.specs.SummaryLaws.{IsPlainCountedRun}
 use Rattle.pfs_top.specs.Commands.{Runs, RunOn, most_bytes, HasReport, HasSummaries, HasLoad, HasFault, HasBadText, HasBadInput, HasScript, IsWithin, HasInput, HasPlain, HasStore, store_at, Has, ToldPart, Tells, Writes, Ends, ReadBy, ReadWhole, status_after}
 use Rattle.pfs_top.specs.CommandWords.{AsksRun, AsksPlain, AsksLoad}
@@ -165,14 +166,14 @@ input_ran Ran input setting phases script ReadFault due h = absurd h
 input_ran Ran input setting phases script WriteFault due h = (setting, phases, script, h)
 input_ran Ran input setting phases script NoMemory due h = absurd h
 
--- the summaries of a generated script's phases are a load's
-pub load_shown : (number : ℕ) (setting : Setting) (phases : List Phase) → IsScript (script_text number) setting phases → (status : Status) (due : List ℕ) → HasSummaries setting phases status due → HasLoad number status due
-load_shown number setting phases script Done due h = (setting, phases, script, h)
-load_shown number setting phases script Usage due h = absurd h
-load_shown number setting phases script (BadScript line reason) due h = absurd h
-load_shown number setting phases script ReadFault due h = absurd h
-load_shown number setting phases script WriteFault due h = absurd h
-load_shown number setting phases script NoMemory due h = absurd h
+-- the summaries of a generated script's phases are a load's, since all runs of it show the same
+pub load_shown : OneTextLaw → (number : ℕ) (setting : Setting) (phases : List Phase) → IsScript (script_text number) setting phases → (status : Status) (due : List ℕ) → HasSummaries setting phases status due → HasLoad number status due
+load_shown law number setting phases script Done due h = (subst (IsLoadText number) (sym h.3) (law number setting phases h.0 script h.2.run), setting, phases, script, h)
+load_shown law number setting phases script Usage due h = absurd h
+load_shown law number setting phases script (BadScript line reason) due h = absurd h
+load_shown law number setting phases script ReadFault due h = absurd h
+load_shown law number setting phases script WriteFault due h = absurd h
+load_shown law number setting phases script NoMemory due h = absurd h
 
 -- what is told of a source is so of the words that ask for its script
 pub plain_told : (words : List (String Global)) (input : Option (List ℕ)) → AsksPlain words → (status : Status) (due : List ℕ) → HasInput IsPlainCountedRun input status due → HasPlain words input status due

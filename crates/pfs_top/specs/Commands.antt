@@ -18,7 +18,8 @@ use Rattle.pfs_journal.specs.ReportLines.{FitsReport}
 use Rattle.pfs_journal.specs.Reports.{IsReport}
 use Rattle.pfs_journal.specs.Spelling.{spelling}
 use Rattle.pfs_gen.specs.GeneratedScript.{script_text}
-use Rattle.pfs_top.specs.Loads.{load_text}
+use Rattle.pfs_law_load.specs.LoadText.{load_text}
+use Rattle.pfs_law_load.specs.OneText.{IsLoadText}
 use Rattle.pfs_top.specs.CommandWords.{AsksRun, AsksPlain, AsksLoad, IsCommand}
 use Rattle.pfs_top.specs.declared.statuses.Status.{Status}
 use Rattle.pfs_top.specs.declared.statuses.Status.TheVariants.{Done, Usage, BadScript, ReadFault, WriteFault, NoMemory}
@@ -82,10 +83,11 @@ HasSummaries setting phases Done due = (report : ReportParts) × IsReport report
     × (due ≡ load_text report)
 HasSummaries setting phases _ due = ⊥
 
--- the text due to `load` with this number, by the script generated of it
+-- the text due to `load` with this number, by the script generated of it. It is the one text of all runs of that script,
+-- in whatever order their sessions came: what the report of `plain` shows there
 abbrev pub HasLoad : ℕ → Status → List ℕ → Type 0
-HasLoad number Done due = (setting : Setting) × (phases : List Phase) × IsScript (script_text number) setting phases
-    × HasSummaries setting phases Done due
+HasLoad number Done due = IsLoadText number due × (setting : Setting) × (phases : List Phase)
+    × IsScript (script_text number) setting phases × HasSummaries setting phases Done due
 HasLoad number _ due = ⊥
 
 -- of a fault

@@ -7,7 +7,7 @@ ghost use Rattle.pfs_journal.specs.Spelling.{table_text};
 ghost use Rattle.pfs_outside.specs.DeviceCalls.{Rose};
 ghost use Rattle.pfs_outside.specs.WholeStreams.{Puts};
 ghost use Rattle.pfs_script.specs.Scripts.{IsScript};
-ghost use Rattle.pfs_top.specs.Loads.{is_named, is_summary, last_tables, done_line, load_text};
+ghost use Rattle.pfs_law_load.specs.LoadText.{is_named, is_summary, last_tables, done_line, load_text};
 ghost use Rattle.pfs_top.specs.Commands.{HasLoad, HasSummaries, Tells};
 
 use crate::NoMemory;
@@ -33,7 +33,7 @@ const SUMMARIES: [Table; 5] = [
 ];
 
 /// Whether it is this table's.
-#[tactic(auto, unfolding(crate::specs::Loads::is_named))]
+#[tactic(auto, unfolding(pfs_law_load::specs::LoadText::is_named))]
 fn is_named(table: &TableReport, named: Table) -> bool
     ensures { result ≡ is_named table.now named }
 {
@@ -77,7 +77,7 @@ fn put_summaries<K: Sink>(
     Ok(())
 }
 
-#[tactic(auto, unfolding(crate::specs::Loads::done_line))]
+#[tactic(auto, unfolding(pfs_law_load::specs::LoadText::done_line))]
 fn put_done<K: Sink>(sink: &mut K) -> Result<(), WriteStop>
     ensures { Puts (K.written sink.old) (K.written sink.new) (K.faults sink.old) (K.faults sink.new) (done_line) result }
 {
@@ -85,7 +85,7 @@ fn put_done<K: Sink>(sink: &mut K) -> Result<(), WriteStop>
 }
 
 /// Writes what a load shows of its report.
-#[tactic(auto, using(pfs_outside::proofs::SinkWrites::puts_then, pfs_outside::proofs::SinkWrites::puts_stop), unfolding(crate::specs::Loads::load_text))]
+#[tactic(auto, using(pfs_outside::proofs::SinkWrites::puts_then, pfs_outside::proofs::SinkWrites::puts_stop), unfolding(pfs_law_load::specs::LoadText::load_text))]
 fn put_load<K: Sink>(alloc: Global, report: &Report, sink: &mut K) -> Result<(), WriteStop>
     ensures { Puts (K.written sink.old) (K.written sink.new) (K.faults sink.old) (K.faults sink.new)
         (load_text report.now) result }
@@ -130,7 +130,8 @@ fn show_summaries<R: Threads + Wait + Sync, G: Gate, K: Sink>(
     }
 }
 
-/// Runs the script of a number, the sessions of a phase at once, and writes the summaries of its last phase.
+/// Runs the script of a number, the sessions of a phase at once, and writes the summaries of its last phase: at Done the
+/// text that a run on one thread has there.
 pub fn load<R: Threads + Wait + Sync, G: Gate, K: Sink>(
     rt: &R,
     gate: &G,
@@ -141,6 +142,7 @@ pub fn load<R: Threads + Wait + Sync, G: Gate, K: Sink>(
     ensures { Tells (HasLoad number) (K.written sink.old) (K.written sink.new)
         (Rose (K.faults sink.old) (K.faults sink.new)) result }
 {
+    pfs_law_load::laws::one_text();
     match generated(alloc, number) {
         Ok(script) => show_summaries(rt, gate, alloc, &script, sink),
         Err(_) => Status::NoMemory,

@@ -2,9 +2,9 @@ use Rattle.std.proofs.Common.{ℕ, List, ◌+◌, ◌++◌, ◌∙◌, Err, subs
 use Rattle.std.specs.Prelude.{filter}
 use Rattle.std.specs.List.{flat_map}
 use Rattle.pfs_journal.specs.Spelling.{table_text}
+use Rattle.pfs_law_load.specs.LoadText.{is_summary}
 use Rattle.pfs_outside.specs.WholeStreams.{Puts}
 use Rattle.pfs_outside.proofs.SinkWrites.{puts_then, puts_stop}
-use Rattle.pfs_top.specs.Loads.{is_summary}
 use Rattle.pfs_top.proofs.WrittenTables.{written_around}
 use Rattle.pfs_top.proofs.loads.put_summaries.Goals as goal
 

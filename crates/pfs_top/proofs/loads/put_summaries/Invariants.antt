@@ -2,8 +2,8 @@ use Rattle.std.proofs.Common.{◌≤◌, take}
 use Rattle.std.specs.Prelude.{filter}
 use Rattle.std.specs.List.{flat_map}
 use Rattle.pfs_journal.specs.Spelling.{table_text}
+use Rattle.pfs_law_load.specs.LoadText.{is_summary}
 use Rattle.pfs_outside.specs.DeviceCalls.{Added}
-use Rattle.pfs_top.specs.Loads.{is_summary}
 use Rattle.pfs_top.proofs.loads.put_summaries.Given as goal
 
 abbrev pub invariant-loop-table : goal.invariant-loop-table

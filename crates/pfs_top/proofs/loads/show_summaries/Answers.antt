@@ -1,9 +1,9 @@
 use Rattle.std.proofs.Common.{refl, sym, subst}
+use Rattle.pfs_law_load.specs.LoadText.{load_text}
 use Rattle.pfs_outside.specs.DeviceCalls.{Rose}
 use Rattle.pfs_top.specs.declared.statuses.Status.{Status}
 use Rattle.pfs_top.specs.declared.statuses.Status.TheVariants.{Done}
 use Rattle.pfs_top.specs.Commands.{HasSummaries, Tells}
-use Rattle.pfs_top.specs.Loads.{load_text}
 use Rattle.pfs_top.proofs.Outcomes.{told}
 use Rattle.pfs_top.proofs.loads.show_summaries.Goals as goal
 

@@ -1,0 +1,9 @@
+mod LineTexts
+mod SaidLines
+mod GeneratedForms
+mod FormPhases
+mod GeneratedPhases
+mod SameSettings
+mod SameTables
+mod OneText
+mod LoadExamples

@@ -1,0 +1,4 @@
+pub mod LoadText
+pub mod LoadPhases
+pub mod OneText
+pub mod LoadExamples
