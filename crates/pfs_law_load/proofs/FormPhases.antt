@@ -1,8 +1,7 @@
 -- The phases of lines of which some connect and the others start, spend and end.
 use Rattle.std.proofs.Common.{ℕ, ◌≡◌, ◌+◌, ◌≤◌, Bool, true, false, cond, List, [], ◌∷◌, ◌++◌, length, Option, Some, None, refl, ap, ◌∙◌, arith}
-use Rattle.std.specs.Prelude.{IfSome, fold, is_some, option_map}
+use Rattle.std.specs.Prelude.{IfSome, fold, option_map}
 use Rattle.std.specs.List.{flat_map}
-use Rattle.pfs_classes.specs.declared.classes.ClassRef.{ClassRef}
 use Rattle.pfs_law_agreed.specs.FirstPhases.{IsConnecting, connects_of}
 use Rattle.pfs_law_agreed.specs.QuietPhases.{IsQuietPhase}
 use Rattle.pfs_model.specs.Chains.{Each}

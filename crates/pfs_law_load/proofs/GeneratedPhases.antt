@@ -2,14 +2,14 @@
 use Rattle.std.proofs.Common.{ℕ, ◌≡◌, ◌≤◌, List, [], ◌∷◌, ◌++◌, ap, sym, subst, ◌∙◌, arith}
 use Rattle.pfs_classes.specs.declared.setting.Setting.{Setting}
 use Rattle.pfs_gen.specs.GeneratedScript.{script_text}
-use Rattle.pfs_law_agreed.specs.FirstPhases.{HasRoom, connects_of}
+use Rattle.pfs_law_agreed.specs.FirstPhases.{connects_of}
 use Rattle.pfs_law_agreed.specs.QuietPhases.{IsQuietAt}
 use Rattle.pfs_rows.specs.Limits.{default_limits}
 use Rattle.pfs_rows.specs.declared.limits.Limits.{Limits}
 use Rattle.pfs_script.proofs.NextFinds.{head_limits}
 use Rattle.pfs_script.specs.Blocks.{phases_of, sense_of}
 use Rattle.pfs_script.specs.Headings.{limits_of}
-use Rattle.pfs_script.specs.Scripts.{IsScript, IsSetting, IsText}
+use Rattle.pfs_script.specs.Scripts.{IsScript}
 use Rattle.pfs_script.specs.declared.blocks.Phase.{Phase}
 use Rattle.pfs_script.specs.declared.forms.Form.{Form}
 use Rattle.pfs_script.specs.declared.forms.Form.TheVariants as lines

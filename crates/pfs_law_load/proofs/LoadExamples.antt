@@ -1,17 +1,15 @@
 -- The worked texts and scripts.
-use Rattle.std.proofs.Common.{ℕ, ◌≡◌, List, [], ◌∷◌, length, get_or, refl, ap, sym, subst, ◌∙◌, arith}
-use Rattle.std.specs.Prelude.{codes, decimal}
+use Rattle.std.proofs.Common.{◌≡◌, [], ◌∷◌, length, get_or, refl, ap, sym, subst, ◌∙◌, arith}
+use Rattle.std.specs.Prelude.{codes}
 use Rattle.std.proofs.lemmas.Fmt.{decimal_digit}
 use Rattle.pfs_classes.specs.declared.classes.ClassRef.{ClassRef}
 use Rattle.pfs_classes.specs.declared.setting.Setting.{Setting}
 use Rattle.pfs_journal.specs.Spelling.{field_text, row_text, table_line, table_text, value_text}
-use Rattle.pfs_law_agreed.specs.AgreedExamples.{both_connect, both_wait, one_quits}
+use Rattle.pfs_law_agreed.specs.AgreedExamples.{both_connect, both_wait}
 use Rattle.pfs_law_agreed.specs.FirstPhases.{HasRoom, IsConnecting}
-use Rattle.pfs_law_agreed.specs.QuietPhases.{IsQuietAt}
 use Rattle.pfs_script.specs.Marks.{written_from}
 use Rattle.pfs_script.specs.declared.blocks.Phase.{Phase}
 use Rattle.pfs_law_load.specs.LoadExamples.{WorkedLoad, WorkedScripts, WorkedTexts, report_with}
-use Rattle.pfs_law_load.specs.LoadPhases.{HasLoadPhases}
 use Rattle.pfs_law_load.specs.LoadText.{done_line, is_named, load_text}
 
 shown : load_text (report_with 1 2 4) ≡ codes "table events_waits_summary_global_by_event_name\nrow 4\ntable events_statements_summary_by_digest\nrow 3\ndone\n"

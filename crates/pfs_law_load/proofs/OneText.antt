@@ -1,5 +1,5 @@
 -- What a load shows of any two runs of a number's script is the same.
-use Rattle.std.proofs.Common.{ℕ, ◌≡◌, ◌+◌, List, [], ◌∷◌, ◌++◌, map, filter, refl, ap, sym, subst, ◌∙◌}
+use Rattle.std.proofs.Common.{ℕ, ◌≡◌, ◌+◌, List, [], ◌∷◌, ◌++◌, filter, refl, ap, sym, subst, ◌∙◌}
 use Rattle.std.specs.List.{flat_map}
 use Rattle.pfs_classes.specs.declared.setting.Setting.{Setting}
 use Rattle.pfs_gen.specs.GeneratedScript.{script_text}
@@ -11,11 +11,10 @@ use Rattle.pfs_law_agreed.specs.FirstPhases.{HasRoom, IsConnecting, SecondPhaseL
 use Rattle.pfs_law_agreed.specs.QuietPhases.{IsQuietAt}
 use Rattle.pfs_law_agreed.specs.SameRows.{AreSameAt, HaveSameRows, RowsLaw}
 use Rattle.pfs_model.specs.EntryPlaces.{Block}
-use Rattle.pfs_runs.specs.PhaseFinals.{IsFinal}
 use Rattle.pfs_runs.specs.Runs.{AreFinal, ArePhasesOf, IsRun}
 use Rattle.pfs_script.specs.Scripts.{AreAlike, IsExact, IsScript}
 use Rattle.pfs_script.specs.declared.blocks.Phase.{Phase}
-use Rattle.pfs_law_load.specs.LoadPhases.{GeneratedLaw, HasLoadPhases}
+use Rattle.pfs_law_load.specs.LoadPhases.{GeneratedLaw}
 use Rattle.pfs_law_load.specs.LoadText.{done_line, is_summary, last_tables, load_text}
 use Rattle.pfs_law_load.specs.OneText.{OneTextLaw}
 use Rattle.pfs_law_load.proofs.SameSettings.{same_setting}
