@@ -1,6 +1,6 @@
-"""A MariaDB server in a folder of its own, without a network, with its Performance Schema on, and clients of it, for the
-scripts of this folder. It wants Linux, and `mariadbd`, `mariadb-install-db` and `mariadb` on the path, which Debian's
-mariadb-server has. A script removes the socket's folder, whose path has to be short."""
+"""A MariaDB server in a folder of its own, without a network, with its Performance Schema on, and clients of it, for
+the scripts of this folder. It wants Linux, and `mariadbd`, `mariadb-install-db` and `mariadb` on the path, which
+Debian's mariadb-server has. The path of the folder is short, as that of a socket has to be."""
 import contextlib
 import getpass
 import pathlib
