@@ -1,0 +1,5 @@
+mod HeldSteps
+pub mod PickedPlaces
+pub mod ReplaySteps
+pub mod ReplayedChanges
+mod ShelvedContents

@@ -1,0 +1,6 @@
+mod DueTables
+mod EndFaults
+mod ListDifferences
+mod LossCounts
+mod LostCases
+mod OneReading
