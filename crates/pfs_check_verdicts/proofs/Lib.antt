@@ -1,0 +1,2 @@
+mod FlagFacts
+mod VerdictFacts

@@ -1,0 +1,2 @@
+pub mod PrintedSets
+pub mod VerdictRules
