@@ -4,6 +4,8 @@
 #[cfg(test)]
 mod answers;
 #[cfg(test)]
+mod caused;
+#[cfg(test)]
 mod causes;
 #[cfg(test)]
 mod cut;
