@@ -1,0 +1,5 @@
+pub mod PrintedPuts
+pub mod PutCounts
+pub mod RisingPuts
+pub mod ShownPuts
+pub mod TicketRules
