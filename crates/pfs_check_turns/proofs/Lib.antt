@@ -1,0 +1,4 @@
+mod KeyedLists
+mod OrderedReplays
+mod StepLists
+mod TurnLists

@@ -1,0 +1,2 @@
+pub mod ReplayTurns
+pub mod ToldContents
