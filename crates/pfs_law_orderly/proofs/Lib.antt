@@ -1,0 +1,6 @@
+mod ChangingEntries
+mod HadVersions
+mod HeldWalks
+mod OrderlyLaws
+mod PlacedWalks
+mod RowChains

@@ -1,0 +1,3 @@
+pub mod HadVersions
+pub mod HeldEvents
+pub mod RuledChanges
