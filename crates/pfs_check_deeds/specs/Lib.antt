@@ -1,0 +1,2 @@
+pub mod JudgedFalls
+pub mod PlacedDeeds
