@@ -1,0 +1,3 @@
+pub mod DueSets
+pub mod PrintedActions
+pub mod SetupRules
