@@ -1,0 +1,4 @@
+mod EndVersions
+mod FittingFlags
+mod FittingSets
+mod ShownEnds

@@ -1,0 +1,2 @@
+pub mod EndSights
+pub mod StandingEnds
