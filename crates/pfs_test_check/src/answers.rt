@@ -1,9 +1,14 @@
-//! The first fault of a report by the rules of its shape, its actions, its rows' versions, and what was seen.
+//! The first fault of a report by the rules of its shape, its actions, its rows' versions, its switch words, what was
+//! seen, verdicts and numbers.
 
-use pfs_check_cut::{ShapeFault, cut_report};
+use pfs_check_cut::{CutPhase, ShapeFault, cut_report};
+use pfs_check_numbers::{NumbersRule, judge_numbers};
+use pfs_check_orders::{Orders, replay};
 use pfs_check_seen::{SeenRule, judge_seen};
-use pfs_check_versions::{ActionRule, ChainRule, judge_actions, judge_chain};
-use pfs_journal::{ReportParts, read};
+use pfs_check_setup::{SetupRule, judge_setup};
+use pfs_check_verdicts::{VerdictRule, judge_verdicts};
+use pfs_check_versions::{ActionRule, ActionsFound, ChainRule, judge_actions, judge_chain};
+use pfs_journal::{Report, ReportParts, read};
 use pfs_script::Script;
 use std::alloc::Global;
 
@@ -15,56 +20,137 @@ pub(crate) enum Answer {
     Shape(u64),
     Actions(u64),
     Chain(u64),
+    Setup(u64),
     Seen(u64),
+    Verdict(u64),
+    Numbers(u64),
+    /// A text isn't read, or memory ran out.
+    Unread,
 }
 
-fn actions_answer(alloc: Global, report: &ReportParts) -> Option<Answer> {
-    match judge_actions(alloc, report) {
-        Ok(ActionRule::Kept(_)) => Some(Answer::Good),
-        Ok(ActionRule::Wrong(line)) => Some(Answer::Actions(line)),
-        Err(_) => None,
-    }
+/// A report that is cut by its script, with what its actions may ask for.
+#[derive(Drop)]
+pub(crate) struct Replayed {
+    pub script: Script,
+    pub report: Report,
+    pub cuts: Vec<CutPhase>,
+    pub found: ActionsFound,
+    pub orders: Orders,
 }
 
-fn chain_answer(alloc: Global, report: &ReportParts) -> Option<Answer> {
-    match judge_chain(alloc, report) {
-        Ok(ChainRule::Kept(_)) => Some(Answer::Good),
-        Ok(ChainRule::Wrong(line)) => Some(Answer::Chain(line)),
-        Err(_) => None,
-    }
-}
-
-/// The first rule that fails of the first, the second, the third and the fifth; None where a text isn't read, or memory
-/// runs out.
-pub(crate) fn first_fault(alloc: Global, script: &[u8], report: &[u8]) -> Option<Answer> {
+/// The report by the first two rules, or how it fails them.
+pub(crate) fn replay_report(alloc: Global, script: &[u8], report: &[u8]) -> Result<Replayed, Answer> {
+    pfs_check_named::laws::named_changes();
     let Ok(script) = Script::read(alloc, script) else {
-        return None;
+        return Err(Answer::Unread);
     };
     let Ok(report) = read(alloc, report) else {
-        return None;
+        return Err(Answer::Unread);
     };
-    let parts = report.parts();
-    let cuts = match cut_report(alloc, script.phases.as_slice(), parts) {
+    let cuts = match cut_report(alloc, script.phases.as_slice(), report.parts()) {
         Ok(cuts) => cuts,
-        Err(ShapeFault::Line(line)) => return Some(Answer::Shape(line)),
-        Err(ShapeFault::NoMemory) => return None,
+        Err(ShapeFault::Line(line)) => return Err(Answer::Shape(line)),
+        Err(ShapeFault::NoMemory) => return Err(Answer::Unread),
     };
-    let actions = actions_answer(alloc, parts)?;
-    if actions != Answer::Good {
-        return Some(actions);
+    let found = match judge_actions(alloc, report.parts()) {
+        Ok(ActionRule::Kept(found)) => found,
+        Ok(ActionRule::Wrong(line)) => return Err(Answer::Actions(line)),
+        Err(_) => return Err(Answer::Unread),
+    };
+    let phases = script.phases.as_slice();
+    let labels = found.labels.as_slice();
+    let Ok(orders) = replay(alloc, &script.setting, phases, labels) else {
+        return Err(Answer::Unread);
+    };
+    Ok(Replayed {
+        script,
+        report,
+        cuts,
+        found,
+        orders,
+    })
+}
+
+fn chain_answer(alloc: Global, report: &ReportParts) -> Answer {
+    match judge_chain(alloc, report) {
+        Ok(ChainRule::Kept(_)) => Answer::Good,
+        Ok(ChainRule::Wrong(line)) => Answer::Chain(line),
+        Err(_) => Answer::Unread,
     }
-    let chain = chain_answer(alloc, parts)?;
+}
+
+fn setup_answer(alloc: Global, report: &Replayed) -> Answer {
+    let cuts = report.cuts.as_slice();
+    let parts = report.report.parts();
+    match judge_setup(alloc, cuts, parts, &report.found.actions, &report.orders) {
+        Ok(SetupRule::Kept) => Answer::Good,
+        Ok(SetupRule::Wrong(line)) => Answer::Setup(line),
+        Err(_) => Answer::Unread,
+    }
+}
+
+fn seen_answer(alloc: Global, report: &Replayed) -> Answer {
+    match judge_seen(alloc, report.cuts.as_slice(), report.report.parts()) {
+        Ok(SeenRule::Kept) => Answer::Good,
+        Ok(SeenRule::Wrong(line)) => Answer::Seen(line),
+        Err(_) => Answer::Unread,
+    }
+}
+
+fn verdict_answer(alloc: Global, report: &Replayed) -> Answer {
+    let cuts = report.cuts.as_slice();
+    match judge_verdicts(alloc, &report.script.setting, cuts, report.report.parts()) {
+        Ok(VerdictRule::Kept) => Answer::Good,
+        Ok(VerdictRule::Wrong(line)) => Answer::Verdict(line),
+        Err(_) => Answer::Unread,
+    }
+}
+
+fn numbers_answer(alloc: Global, report: Replayed) -> Answer {
+    let Replayed {
+        report,
+        cuts,
+        orders,
+        ..
+    } = report;
+    match judge_numbers(alloc, cuts.as_slice(), report.parts(), orders) {
+        Ok(NumbersRule::Kept(_)) => Answer::Good,
+        Ok(NumbersRule::Wrong(line)) => Answer::Numbers(line),
+        Err(_) => Answer::Unread,
+    }
+}
+
+// The rules behind the second.
+fn later_fault(alloc: Global, report: Replayed) -> Answer {
+    let chain = chain_answer(alloc, report.report.parts());
     if chain != Answer::Good {
-        return Some(chain);
+        return chain;
     }
-    match judge_seen(alloc, cuts.as_slice(), parts) {
-        Ok(SeenRule::Kept) => Some(Answer::Good),
-        Ok(SeenRule::Wrong(line)) => Some(Answer::Seen(line)),
-        Err(_) => None,
+    let setup = setup_answer(alloc, &report);
+    if setup != Answer::Good {
+        return setup;
+    }
+    let seen = seen_answer(alloc, &report);
+    if seen != Answer::Good {
+        return seen;
+    }
+    let verdict = verdict_answer(alloc, &report);
+    if verdict != Answer::Good {
+        return verdict;
+    }
+    numbers_answer(alloc, report)
+}
+
+/// The first rule that fails of the first seven.
+pub(crate) fn first_fault(alloc: Global, script: &[u8], report: &[u8]) -> Option<Answer> {
+    match replay_report(alloc, script, report) {
+        Ok(report) => Some(later_fault(alloc, report)),
+        Err(answer) => Some(answer),
     }
 }
 
 /// What is put in place of a part of a text, where that part stands first.
+#[derive(Drop)]
 pub(crate) struct Edit {
     pub old: &'static [u8],
     pub new: &'static [u8],

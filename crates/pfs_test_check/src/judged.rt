@@ -6,14 +6,14 @@
 use crate::answers::{Answer, Edit, edited_answer, first_fault};
 
 /// Two transactions, of which the second stays open.
-const TRANSACTIONS: &[u8] =
+pub(crate) const TRANSACTIONS: &[u8] =
     b"consumer events_waits_current YES\nconsumer events_waits_history YES\nconsumer events_waits_history_long YES\nconsumer events_stages_current YES\nconsumer events_stages_history YES\nconsumer events_stages_history_long YES\nconsumer events_statements_history_long YES\ninstrument wait/synch/% YES YES\nphase\nsession 1 v h\nstart transaction rw\nend\nstart transaction rw\n";
 
-const TRANSACTIONS_REPORT: &[u8] =
+pub(crate) const TRANSACTIONS_REPORT: &[u8] =
     b"pfs-report 1\nphase 1\nsession 1\nconnect 1 0 0 0 0\ntag 1 1\ntag 33 1\ntag 65 1\ntag 97 1\nset 1 1 3\nstart 1 attributed 0 1 0 -\nring 8465 1\nend 1 1 0 1\nadd 191 1\nring 8465 2\nring 8496 1\nstart 2 attributed 0 1 0 -\nring 8465 3\nfinal\nend\n";
 
 /// That report with one change each.
-const TRANSACTIONS_EDITS: [Edit; 12] = [
+const TRANSACTIONS_EDITS: [Edit; 16] = [
     Edit {
         old: b"tag 1 1\n",
         new: b"tag 1 0\n",
@@ -74,17 +74,37 @@ const TRANSACTIONS_EDITS: [Edit; 12] = [
         new: b"end 1 1 4 1\n",
         answer: Answer::Seen(12),
     },
+    Edit {
+        old: b"connect 1 0 0 0 0\n",
+        new: b"connect 1 0 0 4 0\n",
+        answer: Answer::Numbers(4),
+    },
+    Edit {
+        old: b"start 1 attributed 0 1 0 -\n",
+        new: b"start - attributed 0 1 0 -\n",
+        answer: Answer::Numbers(10),
+    },
+    Edit {
+        old: b"end 1 1 0 1\n",
+        new: b"end 1 3 0 1\n",
+        answer: Answer::Numbers(12),
+    },
+    Edit {
+        old: b"start 2 attributed 0 1 0 -\n",
+        new: b"start 2 lost-nested 0 1 0 -\n",
+        answer: Answer::Verdict(16),
+    },
 ];
 
 /// A change of no row and events of two sessions, most of them of classes or tables that lack their memory or are off.
-const REFUSALS: &[u8] =
+pub(crate) const REFUSALS: &[u8] =
     b"limit users 0\nlimit statement_stack 2\nlimit file_classes 3\nlimit stage_classes 1\nclass wait/io/file/own/x YES YES\nclass stage/own/y YES NO\nclass statement/own/z YES YES\nconsumer events_waits_current YES\nconsumer events_waits_history YES\nconsumer events_waits_history_long YES\nconsumer events_stages_current YES\nconsumer events_stages_history YES\nconsumer events_statements_history_long YES\nconsumer events_transactions_history_long YES\nphase\nphase\nsession 1 u g\nsql DELETE FROM setup_actors WHERE USER='u' AND ENABLED = 'NO'\nstart wait/io/file/sql/binlog\nstart wait/synch/mutex/sql/LOCK_open\nsession 2 u h\nspend 9223372036854775808\nstart transaction rw\nstart wait/io/file/own/x\nend\nspend 1\nstart wait/lock/table/sql/handler db.t\nstart wait/io/file/innodb/innodb_data_file\nstart wait/synch/mutex/sql/LOCK_open\nstart wait/io/table/sql/handler db.t\nspend 120\nstart wait/io/file/sql/binlog\nsql SELECT * FROM setup_consumers LIMIT 3\nstart wait/io/file/own/x\nstart wait/io/socket/sql/client_connection\nend\nstart wait/io/table/sql/handler db.u\nend\nstart wait/io/file/sql/binlog\nend\nstart wait/io/file/sql/binlog\nspend 18446744073709551615\nspend 0\nspend 120\nspend 9223372036854775808\n";
 
-const REFUSALS_REPORT: &[u8] =
+pub(crate) const REFUSALS_REPORT: &[u8] =
     b"pfs-report 1\nphase 1\nfinal\nlost Performance_schema_file_classes_lost 1\nlost Performance_schema_stage_classes_lost 5\nphase 2\nsession 1\nconnect 1 0 0 - 0\ntag 1 1\ntag 33 1\ntag 97 1\nset 1 1 3\nact 3\nreply 0\nstart 1 attributed 0 1 0 -\nring 8450 1\nstart - off-class 0 1 0 -\nsession 2\nconnect 2 1 1 - 1\ntag 2 1\ntag 34 1\ntag 98 1\nset 2 1 3\nstart 1 attributed 0 1 0 -\nring 8521 1\nstart - lost-class - - - -\nend - - - -\nstart 2 attributed 0 1 0 0\nring 8506 1\nstart 3 attributed 0 1 0 -\nring 8507 1\nstart - off-class 0 1 0 -\nstart 4 attributed 0 1 0 0\nring 8508 1\nstart 5 attributed 0 1 0 -\nring 8509 1\nquery\nsaw 0 0\nrows 3\nrow 'events_stages_current' 'YES'\nrow 'events_stages_history' 'YES'\nrow 'events_stages_history_long' 'NO'\nstart - lost-class - - - -\nstart - off-class 0 1 0 -\nend - - - -\nstart - lost-locker 0 1 0 0\nend - - - -\nstart - lost-locker 0 1 0 -\nend - - - -\nstart - lost-locker 0 1 0 -\nfinal\nend\n";
 
 /// That report with one change each.
-const REFUSALS_EDITS: [Edit; 7] = [
+const REFUSALS_EDITS: [Edit; 13] = [
     Edit {
         old: b"connect 1 0 0 - 0\n",
         new: b"connect 0 0 0 - 0\n",
@@ -119,6 +139,36 @@ const REFUSALS_EDITS: [Edit; 7] = [
         old: b"start 4 attributed 0 1 0 0\n",
         new: b"start 4 attributed 4 1 0 0\n",
         answer: Answer::Seen(33),
+    },
+    Edit {
+        old: b"set 1 1 3\nact 3\n",
+        new: b"act 3\nset 1 1 3\n",
+        answer: Answer::Setup(12),
+    },
+    Edit {
+        old: b"set 2 1 3\n",
+        new: b"set 2 0 3\n",
+        answer: Answer::Setup(23),
+    },
+    Edit {
+        old: b"start 1 attributed 0 1 0 -\n",
+        new: b"start - attributed 0 1 0 -\n",
+        answer: Answer::Numbers(15),
+    },
+    Edit {
+        old: b"start 2 attributed 0 1 0 0\n",
+        new: b"start 0 attributed 0 1 0 0\n",
+        answer: Answer::Numbers(28),
+    },
+    Edit {
+        old: b"start 4 attributed 0 1 0 0\n",
+        new: b"start 8 attributed 0 1 0 0\n",
+        answer: Answer::Numbers(33),
+    },
+    Edit {
+        old: b"start 5 attributed 0 1 0 -\n",
+        new: b"start 9 attributed 0 1 0 -\n",
+        answer: Answer::Numbers(35),
     },
 ];
 

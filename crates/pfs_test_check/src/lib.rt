@@ -12,6 +12,8 @@ mod cut;
 #[cfg(test)]
 mod judged;
 #[cfg(test)]
+mod lost;
+#[cfg(test)]
 mod misfits;
 #[cfg(test)]
 mod seen;
