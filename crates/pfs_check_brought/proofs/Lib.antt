@@ -1,0 +1,3 @@
+mod DueFacts
+mod StopFacts
+mod WalkFacts

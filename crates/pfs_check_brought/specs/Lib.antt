@@ -1,0 +1,4 @@
+pub mod BroughtRules
+pub mod HistoryCounts
+pub mod KeptDues
+pub mod StoppedWalks
