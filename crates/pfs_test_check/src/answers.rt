@@ -39,7 +39,11 @@ pub(crate) struct Replayed {
 }
 
 /// The report by the first two rules, or how it fails them.
-pub(crate) fn replay_report(alloc: Global, script: &[u8], report: &[u8]) -> Result<Replayed, Answer> {
+pub(crate) fn replay_report(
+    alloc: Global,
+    script: &[u8],
+    report: &[u8],
+) -> Result<Replayed, Answer> {
     pfs_check_named::laws::named_changes();
     let Ok(script) = Script::read(alloc, script) else {
         return Err(Answer::Unread);
