@@ -16,6 +16,8 @@ mod lost;
 #[cfg(test)]
 mod misfits;
 #[cfg(test)]
+mod rings;
+#[cfg(test)]
 mod seen;
 #[cfg(test)]
 mod visits;
