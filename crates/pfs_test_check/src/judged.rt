@@ -1,7 +1,8 @@
 //! Reports of sessions at once with one change each, and the first rule that each breaks, with its line. They were made
 //! and judged by a program that has nothing of this one. Here the tables behind the last phase are left out, and of
 //! the third script all events with their entries; the line is the one that was judged, less the lines left out before
-//! it. The reports without a change weren't judged, and break none of these rules here.
+//! it. That program knew a sixteenth consumer, so the third report's `UPDATE` is told here as fifteen have it. The
+//! reports without a change weren't judged, and break none of these rules here.
 
 use crate::answers::{Answer, Edit, edited_answer, first_fault};
 
@@ -177,7 +178,7 @@ const ACTIONS: &[u8] =
     b"limit thread_instances 0\nlimit digests 0\nlimit statement_stack 1\nphase\nsession 6 v g\nquit\nsession 5 v h\nsql TRUNCATE TABLE events_waits_summary_by_account_by_event_name\nsql DELETE FROM setup_objects WHERE OBJECT_SCHEMA='db'\nquit\nsession 2 v g\nsession 1 u h\nphase\nsession 2\nsql UPDATE setup_consumers SET ENABLED='YES' WHERE NAME LIKE 'events_%'\nquit\nsession 3 w g\nsql TRUNCATE TABLE events_stages_summary_global_by_event_name\nsql UPDATE setup_consumers SET ENABLED='YES' WHERE NAME LIKE '%current'\nsession 1\n";
 
 const ACTIONS_REPORT: &[u8] =
-    b"pfs-report 1\nphase 1\nsession 6\nconnect 2 - - - -\nact 4\nsession 5\nconnect 5 - - - -\nact 6\nreply 0\nact 7\nreply 0\nact 8\nsession 2\nconnect 3 - - - -\nsession 1\nconnect 1 - - - -\nfinal\nphase 2\nsession 2\nact 9\nset 0 1 65535\nreply 13\nact 10\nsession 3\nconnect 11 - - - -\nact 12\ntake 8333 1\ntake 8334 1\ntake 8335 1\ntake 8336 1\ntake 8337 1\nreply 0\nact 13\nreply 4\nsession 1\nfinal\nend\n";
+    b"pfs-report 1\nphase 1\nsession 6\nconnect 2 - - - -\nact 4\nsession 5\nconnect 5 - - - -\nact 6\nreply 0\nact 7\nreply 0\nact 8\nsession 2\nconnect 3 - - - -\nsession 1\nconnect 1 - - - -\nfinal\nphase 2\nsession 2\nact 9\nset 0 1 32767\nreply 12\nact 10\nsession 3\nconnect 11 - - - -\nact 12\ntake 8333 1\ntake 8334 1\ntake 8335 1\ntake 8336 1\ntake 8337 1\nreply 0\nact 13\nreply 4\nsession 1\nfinal\nend\n";
 
 /// That report with one change each.
 const ACTIONS_EDITS: [Edit; 8] = [
