@@ -32,7 +32,7 @@ answer_right setting answers reads selection part answer first line h fail = at 
   at : (ReadsUpTo setting selection part fail.at → ⊥)
       ⊎ ((length part ≤ fail.at + 1) × (AnswersUpTo answers selection part answer fail.at → ⊥)) → ⊥
   at (inl never) = never (reads selection part answer h fail.at)
-  at (inr never) = never.1 (record { due = part; rows = answer; right = h; alike = refl })
+  at (inr never) = never.1 (record { due = part; rows = answer; right = h; long = refl; alike = refl })
 
 answers_right : (setting : Setting) (answers : Selection → List Entry → Answer → Type 0) → ReadsRight setting answers
     → (selections : List (Option Selection)) (parts : List (List Entry)) (given : List Answer) (first line : ℕ)

@@ -1,11 +1,11 @@
 -- Where actions do as they ask, by the contents, no change of theirs is wrong.
-use Rattle.std.proofs.Common.{◌≡◌, refl, ℕ, ◌+◌, ◌-◌, ◌≢◌, inl, inr, ◌==◌, Bool, true, false, cond, not, List, [], ◌∷◌, ◌++◌, take, sym, ◌∙◌, ap, subst, arith}
+use Rattle.std.proofs.Common.{◌≡◌, refl, ℕ, zero, suc, ◌+◌, ◌-◌, ◌≢◌, inl, inr, ◌==◌, Bool, true, false, cond, not, List, [], ◌∷◌, ◌++◌, map, take, sym, ◌∙◌, ap, subst, arith}
 use Rattle.std.proofs.lemmas.Bool.Decides.{nat_tests}
 use Rattle.pfs_event.specs.declared.entry.Entry.{Entry}
 use Rattle.pfs_event.specs.declared.entry.Entry.TheVariants as says
 use Rattle.pfs_journal.specs.declared.report.ReportParts.{ReportParts}
 use Rattle.pfs_model.specs.declared.changes.Change.{Change}
-use Rattle.pfs_model.specs.ActionAsks.{Asked, DoAsAsked, of_action}
+use Rattle.pfs_model.specs.ActionAsks.{Asked, Did, DoAsAsked, of_action}
 use Rattle.pfs_model.specs.Actions.{IsAmong}
 use Rattle.pfs_model.specs.Chains.{Each, change_at, row_change}
 use Rattle.pfs_model.specs.Contents.{AllContents, AreContents, AreFoundAsCounted, Given, IsContent, IsFoundAsCounted, IsNext, content_after}
@@ -13,7 +13,7 @@ use Rattle.pfs_model.specs.Contexts.{Context}
 use Rattle.pfs_model.specs.EntryPlaces.{Placed}
 use Rattle.pfs_stat.specs.Stat.{stat_of_words}
 use Rattle.pfs_check_faults.proofs.RunRules.{moves_as_asked}
-use Rattle.pfs_check_faults.specs.ActionFaults.{Changes, FindsWhatIsMade, Gives, IsMade, MovesFail, Opens}
+use Rattle.pfs_check_faults.specs.ActionFaults.{Changes, FindsWhatIsMade, Gives, IsMade, MovesFail, Opens, moves_in, moving_at}
 
 head : {x y : Change} → (x ∷ []) ≡ (y ∷ []) → x ≡ y
 head {x} {y} e = ap (λ cs. first cs x) e where
@@ -114,12 +114,26 @@ finds given content counted all (p ∷ ps) number contents found =
       )
       at false e h = h
 
+each_taken : (fact : Placed → Type 0) (n : ℕ) (ps : List Placed) → Each fact ps → Each fact (take n ps)
+each_taken fact zero ps h = tt
+each_taken fact (suc n) [] h = tt
+each_taken fact (suc n) (p ∷ ps) h = (h.0, each_taken fact n ps h.1)
+
+each_moves : (fact : Placed → Type 0) (ps : List Placed) → Each fact ps → Each fact (moves_in ps)
+each_moves fact [] h = tt
+each_moves fact (p ∷ ps) h = times_over (moving_at p.entry) (each_moves fact ps h.1) where
+  times_over : (ds : List Did) → Each fact (moves_in ps) → Each fact (map (λ _. p) ds ++ moves_in ps)
+  times_over [] rest = rest
+  times_over (d ∷ ds) rest = (h.0, times_over ds rest)
+
 pub none_moves_wrong : (report : ReportParts) (given : Given) (asked : ℕ → Asked) (counted : ℕ → ℕ → Bool) (content : ℕ → ℕ → List ℕ)
     (all : List Placed) (line : ℕ) → DoAsAsked asked counted all → AreFoundAsCounted content counted all → AreContents given content all
     → MovesFail report given asked all line → ⊥
 none_moves_wrong report given asked counted content all line done found contents fail =
     fail.wrong (record {
       counted = counted fail.number;
-      found = finds given content counted all all fail.number contents found;
+      found = each_taken (λ (place : Placed). FindsWhatIsMade given all (counted fail.number) place.entry) (fail.at + 1)
+          (moves_in (of_action fail.number all)) (each_moves (λ (place : Placed). FindsWhatIsMade given all (counted fail.number) place.entry)
+          (of_action fail.number all) (finds given content counted all all fail.number contents found));
       alike = ap (take (fail.at + 1)) (sym (moves_as_asked asked counted all done fail.number fail.positive));
     })

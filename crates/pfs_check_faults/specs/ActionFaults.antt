@@ -1,6 +1,6 @@
 -- The rules of what actions do: the sets of switch words, and the changes of rows. What an action changes stands on the
 -- lines right behind its `connect` or `act`, its sets behind its other changes.
-use Rattle.std.specs.Prelude.{ℕ, zero, suc, ◌≡◌, ◌≢◌, ◌+◌, ◌-◌, ◌<◌, ◌≤◌, ◌⊎◌, ◌==◌, not, Bool, true, false, List, [], ◌∷◌, ◌++◌, length, Some}
+use Rattle.std.specs.Prelude.{ℕ, zero, suc, ◌≡◌, ◌≢◌, ◌+◌, ◌-◌, ◌<◌, ◌≤◌, ◌⊎◌, ◌==◌, not, Bool, true, false, List, [], ◌∷◌, ◌++◌, length, map, take, Some}
 use Rattle.pfs_event.specs.declared.entry.Entry.{Entry}
 use Rattle.pfs_event.specs.declared.entry.Entry.TheVariants as says
 use Rattle.pfs_journal.specs.declared.report.ReportParts.{ReportParts}
@@ -30,6 +30,11 @@ flagging_at _ = []
 abbrev pub moving_at : Entry → List Did
 moving_at (says.Set word version flags) = []
 moving_at entry = did entry
+
+-- those of these places that are changes other than sets
+abbrev pub moves_in : List Placed → List Placed
+moves_in [] = []
+moves_in (place ∷ places) = map (λ _. place) (moving_at place.entry) ++ moves_in places
 
 -- each action sets what it asks for
 abbrev pub SetAsAsked : (ℕ → Asked) → List Placed → Type 0
@@ -112,10 +117,11 @@ FindsWhatIsMade given all counted (says.Take row version) =
 FindsWhatIsMade given all counted entry = Unit {0}
 
 -- The changes of an action's rows up to a place are as it asks for, for some finds of its takes that are as the
--- contents say, where they say it.
+-- contents say up to there, where they say it.
 pub record MovesUpTo (given : Given) (asked : ℕ → Asked) (all : List Placed) (number at : ℕ) : Type 0 where
   pub counted : ℕ → Bool
-  pub found : Each (λ place. FindsWhatIsMade given all counted place.entry) (of_action number all)
+  pub found : Each (λ place. FindsWhatIsMade given all counted place.entry)
+      (take (at + 1) (moves_in (of_action number all)))
   pub alike : AlikeUpTo (moved_by counted (asked number).moves ++ signed_by (asked number).signs)
       (each_of moving_at (of_action number all)) at
 

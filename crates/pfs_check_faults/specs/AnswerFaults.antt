@@ -28,13 +28,14 @@ abbrev pub ReadsUpTo : Setting → Selection → List Entry → ℕ → Type 0
 ReadsUpTo setting (Stored select) part at = ReadsAlike setting select part at
 ReadsUpTo setting (Held select) part at = Unit {0}
 
--- How many rows answer it, and these rows, are up to a place those of one that is answered rightly; the entries and
--- then the rows are counted.
+-- How many rows answer it, and these rows, are up to a place those of one that is answered rightly behind as many
+-- entries; the entries and then the rows are counted.
 pub record AnswersUpTo (answers : Selection → List Entry → Answer → Type 0) (selection : Selection) (part : List Entry)
     (answer : Answer) (at : ℕ) : Type 0 where
   pub due : List Entry
   pub rows : Answer
   pub right : answers selection due rows
+  pub long : length due ≡ length part
   pub alike : AlikeUpTo (journal_lines due (rows ∷ [])) (journal_lines part (answer ∷ [])) at
 
 -- It isn't so up to this line, where the line of the first entry has the number `first`: what is read up to there is no
