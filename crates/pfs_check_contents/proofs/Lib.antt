@@ -2,4 +2,4 @@ mod HeldSteps
 pub mod PickedPlaces
 pub mod ReplaySteps
 pub mod ReplayedChanges
-mod ShelvedContents
+pub mod ShelvedContents

@@ -1,5 +1,5 @@
 -- The contents that are kept of rows, and those of a report.
-use Rattle.std.specs.Prelude.{ℕ, ◌≡◌, ◌⊎◌, ◌==◌, cond, List, replicate, Option, Some, None}
+use Rattle.std.specs.Prelude.{ℕ, ◌≡◌, ◌⊎◌, ◌==◌, ◌||◌, Bool, cond, List, replicate, Option, Some, None, is_some}
 use Rattle.std.specs.BTreeMap.{get}
 use Rattle.std.specs.declared.cmp.Ordering.{Ordering}
 use Rattle.std.specs.Ordering.{nat_cmp, ordering_then}
@@ -21,6 +21,10 @@ or_zeros (Some words) = words
 abbrev pub content_at : Shelf → ℕ → ℕ → List ℕ
 content_at shelf row version =
     cond (version == 0) (opening_words row) (or_zeros (get change_cmp shelf.kept (change_at row version)))
+
+-- it is kept, or the one that the row opens with
+abbrev pub has_at : Shelf → ℕ → ℕ → Bool
+has_at shelf row version = (version == 0) || is_some (get change_cmp shelf.kept (change_at row version))
 
 -- a row had a version: the one that it opened with, or one that a change made
 abbrev pub IsHad : List Placed → ℕ → ℕ → Type 0

@@ -9,7 +9,7 @@ mod shelf;
 
 pub use changes::{Effect, RowChange};
 pub use held::{HeldAmounts, HeldAt};
-pub use replays::replay;
+pub use replays::{replay, words_behind};
 pub use shelf::Shelf;
 
 /// Memory ran out.

@@ -32,8 +32,8 @@ pub(crate) struct Replayed {
     pub last: BTreeMap<u64, Last>,
 }
 
-// The words behind a change, by those before it.
-fn words_behind(effect: &Effect, shelf: &Shelf, here: &[u64; 16]) -> [u64; 16]
+/// The words behind a change, by those before it and by what is kept of the row that it gives from.
+pub fn words_behind(effect: &Effect, shelf: &Shelf, here: &[u64; 16]) -> [u64; 16]
     ensures { result ≡ effect_on effect.now (content_at shelf.now) here.now }
 {
     match *effect {

@@ -1,11 +1,11 @@
 //! The contents of rows at their versions.
 
-ghost use Rattle.std.specs.Prelude.{◌≡◌, cond, Some, OnOk};
+ghost use Rattle.std.specs.Prelude.{◌≡◌, cond, Some, None, OnOk};
 ghost use Rattle.std.specs.BTreeMap.{get};
 ghost use Rattle.pfs_model.specs.declared.changes.Change.{Change};
 ghost use Rattle.pfs_model.specs.Chains.{is_that};
 ghost use Rattle.pfs_model.specs.Contents.{opening_words};
-ghost use Rattle.pfs_check_contents.specs.KeptContents.{change_cmp, content_at};
+ghost use Rattle.pfs_check_contents.specs.KeptContents.{change_cmp, content_at, has_at};
 
 use crate::NoMemory;
 use pfs_model::Change;
@@ -30,20 +30,29 @@ pub(crate) fn opening_words(row: u64) -> [u64; 16]
 }
 
 impl Shelf {
-    // No row was changed. It takes no memory.
-    pub(crate) fn new(alloc: Global) -> Shelf {
+    /// No row was changed. It takes no memory.
+    pub fn new(alloc: Global) -> Shelf
+        ensures { (change : Change) → get change_cmp result.kept change ≡ None }
+    {
         Shelf {
             kept: BTreeMap::new(alloc),
         }
     }
 
-    // Keeps the content behind a change.
-    pub(crate) fn keep(&mut self, change: Change, words: [u64; 16]) -> Result<(), NoMemory>
+    /// Keeps the content behind a change, in place of one that was kept of that row and version. Err where memory runs out.
+    pub fn keep(&mut self, change: Change, words: [u64; 16]) -> Result<(), NoMemory>
         ensures { OnOk result ((other : Change) → get change_cmp self.new.kept other
             ≡ cond (is_that other change) (Some words) (get change_cmp self.old.kept other)) }
     {
         self.kept.insert(change, words)?;
         Ok(())
+    }
+
+    /// Whether the content of a row at a version is kept: the one that it opens with always is.
+    pub fn has(&self, row: u64, version: u64) -> bool
+        ensures { result ≡ has_at self.now row version }
+    {
+        version == 0 || self.kept.contains_key(&Change { row, version })
     }
 
     /// The content of a row at a version that it had; all zeros at one that it never had.
