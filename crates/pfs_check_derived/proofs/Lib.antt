@@ -1,0 +1,5 @@
+mod BoolFacts
+mod DerivationSteps
+mod LastDerivations
+mod MadeContents
+mod NeedSteps

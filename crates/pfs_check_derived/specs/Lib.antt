@@ -1,0 +1,3 @@
+pub mod ChangeNeeds
+pub mod DerivedContents
+pub mod Derivations
