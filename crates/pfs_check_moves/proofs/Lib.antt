@@ -1,0 +1,7 @@
+mod CompareFacts
+mod DueFacts
+mod FaultFacts
+mod FoundFacts
+mod MissFacts
+mod PrintedFacts
+mod RuleFacts

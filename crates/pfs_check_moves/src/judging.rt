@@ -1,0 +1,65 @@
+//! The eighth rule, asked of a report whose actions never fall along a row.
+
+ghost use Rattle.std.specs.Prelude.{◌≡◌, IfOk};
+ghost use Rattle.pfs_model.specs.Actions.{NeverFall, deeds_of};
+ghost use Rattle.pfs_check_cut.specs.CutReports.{phases_by};
+ghost use Rattle.pfs_check_faults.specs.declared.rules.Rule.TheVariants as rules;
+ghost use Rattle.pfs_check_faults.specs.Judgements.{KeepBefore};
+ghost use Rattle.pfs_check_faults.specs.ReportCases.{Case, Findings, entries_of};
+ghost use Rattle.pfs_check_moves.specs.MovesRules.{AreFoundIn, AreOrdersIn, IsMovesJudged, IsShelfIn};
+
+use crate::NoMemory;
+use crate::collecting::collect_moves;
+use crate::faults::first_fault;
+use pfs_check_contents::Shelf;
+use pfs_check_cut::CutPhase;
+use pfs_check_orders::Orders;
+use pfs_check_versions::Versions;
+use pfs_journal::ReportParts;
+use std::alloc::Global;
+
+/// The answer of the eighth rule.
+#[derive(Clone, Copy, Debug, PartialEq, Eq)]
+pub enum MovesRule {
+    /// It is kept.
+    Kept,
+    /// The first line at which it fails, counted from 1.
+    Wrong(u64),
+}
+
+/// Asks the eighth rule of a report that is cut at these places and whose actions never fall along a row, by where its
+/// actions begin, by what they may ask for and by the contents of its rows: each action changes just the rows that it
+/// asks for, and gives on what a take found just where it has counted something. Err where memory runs out.
+pub fn judge_moves(
+    alloc: Global,
+    cuts: &[CutPhase],
+    report: &ReportParts,
+    actions: &Versions,
+    orders: &Orders,
+    shelf: &Shelf,
+) -> Result<MovesRule, NoMemory>
+    ensures { (case : Case) → (found : Findings) → case.report ≡ report.now
+        → found.blocks ≡ phases_by cuts.now report.now.phases → KeepBefore rules.Moves case found
+        → NeverFall (deeds_of (entries_of found)) → AreFoundIn case found actions.now
+        → AreOrdersIn case found orders.now → IsShelfIn case found shelf.now
+        → IfOk result (IsMovesJudged case found shelf.now) }
+{
+    pfs_law_made::laws::kept();
+    pfs_law_made::laws::before();
+    pfs_law_acted::laws::acted();
+    pfs_law_acted::laws::idle();
+    let printed = collect_moves(alloc, cuts, report)?;
+    let entries = &orders.entries;
+    let line = first_fault(
+        alloc,
+        shelf,
+        &printed,
+        actions,
+        entries,
+        orders.orders.as_slice(),
+    )?;
+    match line {
+        None => Ok(MovesRule::Kept),
+        Some(line) => Ok(MovesRule::Wrong(line)),
+    }
+}

@@ -1,0 +1,2 @@
+mod ActedParts
+mod SetsLast
