@@ -1,0 +1,3 @@
+mod ContextWalks
+mod NumberedActions
+mod SourceSteps
