@@ -1,12 +1,13 @@
 -- Contexts along the entries of lines and blocks.
-use Rattle.std.proofs.Common.{◌≡◌, refl, ℕ, ◌==◌, Bool, true, false, cond, List, [], ◌∷◌, ◌++◌, sym, ◌∙◌, ap, subst, inl, inr, arith}
+use Rattle.std.proofs.Common.{◌≡◌, refl, ℕ, ◌==◌, Bool, true, false, cond, List, [], ◌∷◌, ◌++◌, sym, ◌∙◌, ap, subst, ◌⊎◌, inl, inr, arith, Option, None}
 use Rattle.std.proofs.lemmas.Bool.{eqb-true}
 use Rattle.std.proofs.lemmas.Bool.Decides.{nat_tests}
 use Rattle.pfs_event.specs.declared.entry.Entry.{Entry}
 use Rattle.pfs_event.specs.declared.entry.Entry.TheVariants as says
 use Rattle.pfs_model.specs.declared.lines.Line.{Line}
 use Rattle.pfs_model.specs.Actions.{is_acted}
-use Rattle.pfs_model.specs.Chains.{action_change, change_at}
+use Rattle.pfs_model.specs.declared.lines.Subject.{Subject}
+use Rattle.pfs_model.specs.Chains.{Each, action_change, change_at}
 use Rattle.pfs_model.specs.Contexts.{Context, after, after_entries, fresh, noted, subject_of, turned}
 use Rattle.pfs_model.specs.Cuts.{is_headed}
 use Rattle.pfs_model.specs.EntryAsks.{is_head}
@@ -17,7 +18,8 @@ use Rattle.pfs_model.proofs.ActionGuards.{Guarded, begins, cut_guarded, shape_gu
 use Rattle.pfs_model.proofs.ClosedShapes.{shape_headed}
 use Rattle.pfs_model.proofs.LineWalks.{IsNoted, noted_is}
 use Rattle.pfs_model.proofs.ShapeCuts.{part_headed}
-use Rattle.pfs_law_contexts.specs.ToldContexts.{AreToldBehind, ContextLaw, EndLaw, GoesOn, HasBegun, left_by, left_in, past}
+use Rattle.pfs_law_contexts.proofs.QuietParts.{is_ending, quiet_part}
+use Rattle.pfs_law_contexts.specs.ToldContexts.{AreToldBehind, ContextLaw, EndLaw, GoesOn, HasBegun, is_quiet, left_by, left_in, past}
 
 past_join : (earlier xs ys : List Placed) → past earlier (xs ++ ys) ≡ past (past earlier xs) ys
 past_join earlier [] ys = refl
@@ -66,14 +68,29 @@ none_begins _ n = refl
 not_true : false ≡ true → ⊥
 not_true f = cc
 
+-- no event has ended so far and none ends, or nothing asks for that
+abbrev IsCalm : Context → List Entry → Type 0
+IsCalm context entries = ((context.ended ≡ None) × Each (λ e. is_ending e ≡ false) entries) ⊎ Each (λ e. is_quiet e ≡ false) entries
+
+calm_noted : (subject : Option Subject) (context : Context) (entry : Entry) → is_ending entry ≡ false → context.ended ≡ None → (noted subject context entry).ended ≡ None
+calm_noted subject context (says.End event last consumers thread) n e = absurd (cc)
+calm_noted subject context (says.Connect action thread account user host) n e = e
+calm_noted subject context (says.Act action) n e = e
+calm_noted subject context (says.Start event verdict consumers thread class table) n e = refl
+calm_noted subject context (says.Held row first second) n e = e
+calm_noted subject context (says.Add row version) n e = e
+calm_noted subject context says.Settle n e = refl
+calm_noted subject context (says.Take row version) n e = e
+calm_noted subject context _ n e = e
+
 part_walked : (phase session : ℕ) (line : Line) (context : Context) (entries : List Entry) (earlier : List Placed) (inner acted : Bool)
     → GoesOn (left_in earlier session) context → IsInside earlier session context inner entries → Guarded acted entries
-    → (acted ≡ true → HasBegun earlier session context.action)
+    → (acted ≡ true → HasBegun earlier session context.action) → IsCalm context entries
     → IsWalked session earlier (placed_part phase session line context entries) (after_entries (subject_of line) context entries)
-part_walked phase session line context [] earlier inner acted goes inside guarded begun = record { told = tt; goes = goes; others = λ other q. refl }
-part_walked phase session line context (entry ∷ entries) earlier inner acted goes inside guarded begun =
+part_walked phase session line context [] earlier inner acted goes inside guarded begun calm = record { told = tt; goes = goes; others = λ other q. refl }
+part_walked phase session line context (entry ∷ entries) earlier inner acted goes inside guarded begun calm =
     more (part_walked phase session line (noted (subject_of line) context entry) entries (place ∷ earlier) true (acted_next acted entry)
-    (inl next) next (guards acted guarded) (on (noted_is (subject_of line) context entry))) where
+    (inl next) next (guards acted guarded) (on (noted_is (subject_of line) context entry)) (still calm)) where
       place : Placed
       place = record { phase = phase; session = session; line = line; context = context; entry = entry }
 
@@ -108,11 +125,19 @@ part_walked phase session line context (entry ∷ entries) earlier inner acted g
           record { place = h.place; there = inr h.there; own = h.own; says = h.says ∙ ap (λ z. change_at 0 z ∷ []) (sym k.1) }
       on (inr (n, q, same, done)) e = record { place = place; there = inl refl; own = refl; says = q ∙ ap (λ z. change_at 0 z ∷ []) (sym same) }
 
+      still : IsCalm context (entry ∷ entries) → IsCalm (noted (subject_of line) context entry) entries
+      still (inl k) = inl (calm_noted (subject_of line) context entry k.1.0 k.0, k.1.1)
+      still (inr k) = inr k.1
+
+      hushed : IsCalm context (entry ∷ entries) → is_quiet entry ≡ true → context.ended ≡ None
+      hushed (inl k) q = k.0
+      hushed (inr k) q = absurd (not_true (sym k.0 ∙ q))
+
       more : IsWalked session (place ∷ earlier) (placed_part phase session line (noted (subject_of line) context entry) entries)
           (after_entries (subject_of line) (noted (subject_of line) context entry) entries)
           → IsWalked session earlier (placed_part phase session line context (entry ∷ entries)) (after_entries (subject_of line) context (entry ∷ entries))
       more w = record {
-        told = (record { goes = goes; inside = here inner inside; begun = by_action acted guarded begun }, w.told);
+        told = (record { goes = goes; inside = here inner inside; begun = by_action acted guarded begun; quiet = hushed calm }, w.told);
         goes = w.goes;
         others = λ other q. w.others other q ∙ ap (λ b. cond b (left_by place) (left_in earlier other)) q;
       }
@@ -133,10 +158,13 @@ lines_walked phase session context (line ∷ lines) (part ∷ parts) earlier goe
     let one : IsWalked session earlier (placed_part phase session line (turned context) part) (after context line part) =
     part_walked phase session line (turned context) part earlier false false (turned_on (left_in earlier session) context goes)
     (part_headed (shape context line) part (shape_headed context line) shaped.0) (cut_guarded (shape context line) part (shape_guards context line) shaped.0)
-    (λ e. absurd (not_true e)) in
+    (λ e. absurd (not_true e)) (calm part (quiet_part context line part shaped.0)) in
     walked_join session earlier (placed_part phase session line (turned context) part) (placed_lines phase session (after context line part) lines parts)
     (after_lines (after context line part) lines parts) one.told one.others
-    (lines_walked phase session (after context line part) lines parts (past earlier (placed_part phase session line (turned context) part)) one.goes shaped.1)
+    (lines_walked phase session (after context line part) lines parts (past earlier (placed_part phase session line (turned context) part)) one.goes shaped.1) where
+      calm : (part : List Entry) → Each (λ e. is_ending e ≡ false) part ⊎ Each (λ e. is_quiet e ≡ false) part → IsCalm (turned context) part
+      calm part (inl k) = inl (refl, k)
+      calm part (inr k) = inr k
 
 -- each session is left as its blocks tell
 abbrev AllTold : List Block → List Placed → Type 0

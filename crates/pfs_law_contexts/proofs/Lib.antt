@@ -1,3 +1,4 @@
 mod ContextWalks
 mod NumberedActions
+mod QuietParts
 mod SourceSteps

@@ -1,5 +1,7 @@
 -- What an entry's context is, of the entries before it.
-use Rattle.std.specs.Prelude.{ℕ, ◌≡◌, ◌⊎◌, ◌==◌, true, false, cond, List, [], ◌∷◌}
+use Rattle.std.specs.Prelude.{ℕ, ◌≡◌, ◌⊎◌, ◌==◌, Bool, true, false, cond, List, [], ◌∷◌, None}
+use Rattle.pfs_event.specs.declared.entry.Entry.{Entry}
+use Rattle.pfs_event.specs.declared.entry.Entry.TheVariants as says
 use Rattle.pfs_model.specs.Actions.{IsAmong, is_acted}
 use Rattle.pfs_model.specs.Chains.{action_change, change_at}
 use Rattle.pfs_model.specs.Contexts.{Context, fresh, noted, subject_of, turned}
@@ -26,12 +28,21 @@ pub record HasBegun (earlier : List Placed) (session action : ℕ) : Type 0 wher
   pub own : place.session ≡ session
   pub says : action_change place.entry ≡ change_at 0 action ∷ []
 
--- Only an entry that begins something may be the first of a line: of any other the line goes on. And what an action
--- does stands behind the entry that says its number.
+-- an entry of a line that ends no event
+abbrev pub is_quiet : Entry → Bool
+is_quiet (says.Connect action thread account user host) = true
+is_quiet (says.Act action) = true
+is_quiet says.Query = true
+is_quiet (says.Error error) = true
+is_quiet _ = false
+
+-- Only an entry that begins something may be the first of a line: of any other the line goes on. What an action does
+-- stands behind the entry that says its number. And no event has ended on the line of an action, a query or an error.
 pub record IsToldOf (earlier : List Placed) (place : Placed) : Type 0 where
   pub goes : GoesOn (left_in earlier place.session) place.context
   pub inside : is_head place.entry ≡ false → place.context ≡ left_in earlier place.session
   pub begun : is_acted place.entry ≡ true → HasBegun earlier place.session place.context.action
+  pub quiet : is_quiet place.entry ≡ true → place.context.ended ≡ None
 
 -- of all entries from here on
 abbrev pub AreToldBehind : List Placed → List Placed → Type 0
