@@ -1,0 +1,3 @@
+mod EventMoments
+mod FollowSteps
+mod SessionSteps

@@ -1,0 +1,4 @@
+pub mod Closings
+pub mod FollowedLines
+pub mod Moments
+pub mod SessionFacts

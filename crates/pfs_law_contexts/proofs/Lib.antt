@@ -1,0 +1,4 @@
+mod ContextWalks
+mod NumberedActions
+mod QuietParts
+mod SourceSteps

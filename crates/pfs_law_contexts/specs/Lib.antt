@@ -1,0 +1,2 @@
+pub mod TakenSources
+pub mod ToldContexts
