@@ -13,7 +13,7 @@ use Rattle.pfs_model.specs.ActionAsks.{Took, Gave, Freed, Tagged, Flagged, did, 
 use Rattle.pfs_admin.specs.Works.{Sign, Releases, Tags, Made, Flagging, made_entries, sign_entry, signs_of, signs_calls, signs_entries, flagging_calls, flagging_entries}
 use Rattle.pfs_law_session.specs.Demands.{moves_asked, signs_asked, sets_asked}
 use Rattle.pfs_check_blank.specs.AllAsked.{AsksLaw, TellsOne, WholeLaw, every}
-use Rattle.pfs_check_blank.specs.BlankStores.{AllFound}
+use Rattle.pfs_check_blank.specs.BlankStores.{AllFound, AreCalls}
 
 right : (xs ys : List Call) → AllFound (xs ++ ys) → AllFound ys
 right [] ys a = a
@@ -112,11 +112,15 @@ nowhere = record {
   base = 0;
 }
 
-some_start : Opening
+pub some_start : Opening
 some_start = record { flags = []; board = nowhere; switches = nowhere; tickets = nowhere; words = [] }
 
+-- before any call a store may have any contents
+pub nothing_called : {contents : List (List ℕ)} → AreCalls contents []
+nothing_called = record { found = tt; are_put = λ row words e. absurd (cc) }
+
 pub asks_law : AsksLaw
-asks_law work words head old new w = record {
+asks_law work words head old new was now w = record {
   asked = moves_entries w.moves ++ (signs_entries w.made ++ flagging_entries words work.flags);
   grown = w.did.entries_are;
   are = record {
@@ -134,7 +138,7 @@ asks_law work words head old new w = record {
       right (signs_calls w.made) (moves_calls w.moves)
       (right (flagging_calls words work.flags) (signs_calls w.made ++ moves_calls w.moves)
       (subst AllFound (append-nil (flagging_calls words work.flags ++ (signs_calls w.made ++ moves_calls w.moves)))
-      (w.did.goes some_start [] tt)))
+      (w.did.goes some_start [] nothing_called).found))
 
 pub whole_law : WholeLaw
 whole_law work words entries a =

@@ -1,2 +1,3 @@
 mod BlankWorks
 mod OpenStores
+mod WrittenWords

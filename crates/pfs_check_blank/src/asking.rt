@@ -6,7 +6,7 @@ ghost use Rattle.pfs_admin.specs.ConnectionAsks.{connect_entry, placed_of, work_
 ghost use Rattle.pfs_admin.specs.SetupStatements.{has_changed, reply_to, work_of_statement};
 ghost use Rattle.pfs_admin.specs.Truncations.{has_truncated, work_of_truncation};
 ghost use Rattle.pfs_admin.specs.declared.changes.SetupStatement.TheVariants as statements;
-ghost use Rattle.pfs_check_blank.specs.AllAsked.{IsAsked};
+ghost use Rattle.pfs_check_blank.specs.AllAsked.{AreWritten, IsAsked};
 ghost use Rattle.pfs_check_blank.specs.ReadyStores.{IsReady};
 
 use crate::blank::Blank;
@@ -15,7 +15,8 @@ use pfs_exec::{Delete, Insert, Update};
 use pfs_levels::Log;
 use pfs_names::NameId;
 
-/// A session connects: the log gets its `connect`, and behind it all that the connect may ask for.
+/// A session connects: the log gets its `connect`, and behind it all that the connect may ask for; the store has the
+/// words of each info row that it writes.
 pub fn ask_connect(
     admin: &mut Admin,
     blank: &mut Blank,
@@ -34,12 +35,13 @@ pub fn ask_connect(
     ensures placed { result ≡ placed_of (seat_at admin.old session user host) }
     ensures asked { IsAsked (work_of_connect admin.old session user host) admin.old.words
         (connect_entry (admin.old.actions + 1) (seat_at admin.old session user host) ∷ []) log.old log.new }
+    ensures written { AreWritten (work_of_connect admin.old session user host).signs blank.new.contents.items }
 {
     crate::laws::asks();
     admin.connect(blank, session, user, host, log)
 }
 
-/// A session ends its connection: the log gets all that this may ask for.
+/// A session ends its connection: the log gets all that this may ask for, the store the words of each info row.
 pub fn ask_quit(admin: &mut Admin, blank: &mut Blank, session: u64, log: &mut Log)
     requires few { admin.old.actions < 2 ^ 47 }
     requires ready { IsReady admin.old.words blank.old }
@@ -47,12 +49,13 @@ pub fn ask_quit(admin: &mut Admin, blank: &mut Blank, session: u64, log: &mut Lo
     ensures step { admin.new ≡ has_quit admin.old session }
     ensures ready { IsReady admin.new.words blank.new }
     ensures asked { IsAsked (work_of_quit admin.old session) admin.old.words [] log.old log.new }
+    ensures written { AreWritten (work_of_quit admin.old session).signs blank.new.contents.items }
 {
     crate::laws::asks();
     admin.quit(blank, session, log);
 }
 
-/// A table is truncated: the log gets all that this may ask for.
+/// A table is truncated: the log gets all that this may ask for, the store the words of each info row.
 pub fn ask_truncation(admin: &mut Admin, blank: &mut Blank, what: Truncation, log: &mut Log)
     requires few { admin.old.actions < 2 ^ 47 }
     requires ready { IsReady admin.old.words blank.old }
@@ -60,6 +63,7 @@ pub fn ask_truncation(admin: &mut Admin, blank: &mut Blank, what: Truncation, lo
     ensures step { admin.new ≡ has_truncated admin.old what }
     ensures ready { IsReady admin.new.words blank.new }
     ensures asked { IsAsked (work_of_truncation admin.old what) admin.old.words [] log.old log.new }
+    ensures written { AreWritten (work_of_truncation admin.old what).signs blank.new.contents.items }
 {
     crate::laws::asks();
     // It is asked for the law that comes with it.

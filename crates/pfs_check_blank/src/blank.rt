@@ -1,7 +1,7 @@
 //! A store that holds nothing but the switch words.
 
-ghost use Rattle.std.specs.Prelude.{◌≡◌, Some, length};
-ghost use Rattle.pfs_check_blank.specs.BlankStores.{AllFound, hand_at};
+ghost use Rattle.std.specs.Prelude.{◌≡◌, Some, length, slice_get};
+ghost use Rattle.pfs_check_blank.specs.BlankStores.{AreCalls, hand_at};
 
 use pfs_board::Content;
 use pfs_levels::{Added, Hold, Readable, RingPut, Rows, Word};
@@ -12,17 +12,27 @@ use pfs_stat::Stat;
 const ONE: Content = [1, 0, 0, 0, 0, 0, 0, 0, 0, 0, 0, 0, 0, 0, 0, 0];
 
 /// A store of which each row is found at version 0, with something counted in it, whatever was put there. Of what it is
-/// given it keeps the switch words, and which rows are in hand.
+/// given it keeps the switch words, which rows are in hand, and what was put last in each row, which no take finds.
 #[derive(Drop)]
 pub struct Blank {
     pub(crate) words: Vec<Word>,
     pub(crate) taken: Vec<bool>,
-    ghost wide: { (length words.items ≡ 160) × (length taken.items ≡ 14242) },
+    pub(crate) contents: Vec<Content>,
+    ghost wide: { (length words.items ≡ 160) × (length taken.items ≡ 14242) × (length contents.items ≡ 14242) },
+}
+
+impl Blank {
+    /// What was put in a row last, zeros where nothing was; None where there is no such row.
+    pub fn last_put(&self, row: u64) -> Option<Content>
+        ensures { result ≡ slice_get self.now.contents.items row }
+    {
+        self.contents.get(row as usize).copied()
+    }
 }
 
 impl Readable for Blank {
     ghost seen = { λ s. record {
-      reached = λ start calls. AllFound calls;
+      reached = λ start calls. AreCalls s.contents.items calls;
       hand = λ row. hand_at s.taken.items row;
       left = 32768;
       draws = 1;
@@ -66,8 +76,8 @@ impl Hold for Blank {
     }
 
     fn put(&mut self, row: u64, content: &Content) -> u64 {
-        let _ = content;
         self.taken[row as usize] = false;
+        self.contents[row as usize] = *content;
         1
     }
 

@@ -6,9 +6,13 @@ ghost use Rattle.pfs_check_blank.specs.ReadyStores.{IsReady};
 
 use crate::NoMemory;
 use crate::blank::Blank;
+use pfs_board::Content;
 use pfs_levels::Word;
 use pfs_rows::ROWS;
 use std::alloc::Global;
+
+/// What a row has in which nothing was put.
+const NOTHING: Content = [0; 16];
 
 impl Blank {
     /// A store whose words have these flags and were never set, with no row in hand.
@@ -18,7 +22,12 @@ impl Blank {
     {
         let words = opening_words(alloc, flags)?;
         let taken = vec![in alloc; false; ROWS as usize]?;
-        Ok(Blank { words, taken })
+        let contents = vec![in alloc; NOTHING; ROWS as usize]?;
+        Ok(Blank {
+            words,
+            taken,
+            contents,
+        })
     }
 }
 

@@ -1,1 +1,4 @@
+mod InfoFacts
+mod ListRanges
 mod OrderFacts
+mod WrittenRows

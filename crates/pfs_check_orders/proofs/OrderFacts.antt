@@ -1,8 +1,9 @@
 -- What is kept of an action, and of one action more.
-use Rattle.std.proofs.Common.{◌≡◌, refl, ℕ, zero, suc, ◌+◌, ◌-◌, ◌<◌, ◌≤◌, List, [], ◌∷◌, ◌++◌, drop, get_or, length, take, sym, ◌∙◌, ap, subst, append_assoc, arith, Option, Some, inl, inr}
+use Rattle.std.proofs.Common.{◌≡◌, refl, ℕ, zero, suc, ◌+◌, ◌<◌, ◌≤◌, List, [], ◌∷◌, ◌++◌, get_or, length, take, sym, ◌∙◌, ap, subst, append_assoc, arith, Some, inl, inr}
 use Rattle.std.specs.Prelude.{slice_get, ◌⊎◌}
-use Rattle.std.proofs.lemmas.List.{append-nil, drop_at, length-append, take_all, take_more}
-use Rattle.std.proofs.lemmas.Option.{same_Some, slice_get_within}
+use Rattle.std.specs.List.{flat_map}
+use Rattle.std.proofs.lemmas.List.{append-nil, length-append, take_all, take_more}
+use Rattle.std.proofs.lemmas.Option.{slice_get_within}
 use Rattle.pfs_admin.specs.declared.changes.Change.{Change}
 use Rattle.pfs_admin.specs.declared.changes.SetupStatement.{SetupStatement}
 use Rattle.pfs_admin.specs.declared.changes.SetupStatement.TheVariants.{Show}
@@ -21,22 +22,18 @@ use Rattle.pfs_admin.specs.Works.{no_work}
 use Rattle.pfs_law_session.specs.Demands.{answer_by, asked_by, no_rows, rooms_of}
 use Rattle.pfs_law_session.specs.Orders.{no_rooms}
 use Rattle.pfs_model.specs.ActionAsks.{asked_of}
-use Rattle.pfs_runs.specs.Labels.{answer_of_label, answer_to, before_action, label_at, rooms_for, rooms_of_label, work_for, work_of_label}
-use Rattle.pfs_check_blank.specs.AllAsked.{AreAsked, IsAsked, WholeLaw, every}
+use Rattle.pfs_runs.specs.Labels.{answer_of_label, answer_to, rooms_for, rooms_of_label, work_for, work_of_label}
+use Rattle.pfs_check_blank.specs.AllAsked.{AreAsked, AreWritten, IsAsked, WholeLaw, every}
 use Rattle.pfs_check_blank.specs.ReadyStores.{IsReady}
 use Rattle.pfs_check_blank.specs.declared.blank.Blank.{Blank}
+use Rattle.pfs_check_orders.specs.InfoWords.{AreInfos, HasInfos, info_of}
 use Rattle.pfs_check_orders.specs.Replays.{IsReplayed}
+use Rattle.pfs_check_orders.proofs.InfoFacts.{has_infos, infos_stay, none_written}
+use Rattle.pfs_check_orders.proofs.ListRanges.{at_number, last_or, range_behind, range_stays, take_short, there}
+use Rattle.pfs_check_orders.proofs.WrittenRows.{have_words}
 use Rattle.pfs_check_orders.specs.declared.orders.Order.{Order}
 use Rattle.pfs_check_orders.specs.declared.orders.Orders.{Orders}
 use Rattle.pfs_check_orders.specs.ActionOrders.{AreOrders, IsNamed, IsNext, IsOrder, TermsLaw, entries_in}
-
--- what stands behind a front, to the end
-part_behind : (front back all : List Entry) (start end : ℕ) → all ≡ front ++ back → length front ≡ start → end ≡ length all
-    → take (end - start) (drop start all) ≡ back
-part_behind front back all start end e s f =
-    ap (λ z. take (end - start) (drop start z)) e
-    ∙ ap (take (end - start)) (drop_at front back start s)
-    ∙ take_all (end - start) back (omega (arith, s, f, ap length e, length-append front back))
 
 -- an action's order, where a log got all that it asks for
 pub is_next : (s : State) (session : ℕ) (what : Change) (head : List Entry) (n : ℕ) (old new : Journal) (order : Order)
@@ -57,77 +54,56 @@ is_next s session what head n old new order few asked start end rooms answer los
 } where
   part : entries_in new.entries order ≡ asked.asked
   part =
-      part_behind (old.entries ++ head) asked.asked new.entries order.start order.end
+      range_behind (old.entries ++ head) asked.asked new.entries order.start order.end
       (asked.grown ∙ sym (append_assoc old.entries head asked.asked))
       (length-append old.entries head ∙ ap (λ z. length old.entries + z) few ∙ sym start) end
 
 -- entries behind those of an order change nothing of it
-part_stays : (entries more : List Entry) (order : Order) → order.end ≤ length entries
-    → entries_in (entries ++ more) order ≡ entries_in entries order
-part_stays entries more order within = at entries order.start order.end within where
-  dropped : (xs : List Entry) (n : ℕ) → n ≤ length xs → drop n (xs ++ more) ≡ drop n xs ++ more
-  dropped xs zero h = refl
-  dropped [] (suc n) h = absurd (omega (arith, h))
-  dropped (x ∷ xs) (suc n) h = dropped xs n (omega (arith, h))
-
-  taken : (xs : List Entry) (n : ℕ) → n ≤ length xs → take n (xs ++ more) ≡ take n xs
-  taken xs zero h = refl
-  taken [] (suc n) h = absurd (omega (arith, h))
-  taken (x ∷ xs) (suc n) h = ap (λ z. x ∷ z) (taken xs n (omega (arith, h)))
-
-  left : (xs : List Entry) (n m : ℕ) → n ≤ m → m ≤ length xs → m - n ≤ length (drop n xs)
-  left xs zero m h k = omega (arith, k)
-  left [] (suc n) m h k = absurd (omega (arith, h, k))
-  left (x ∷ xs) (suc n) zero h k = absurd (omega (arith, h))
-  left (x ∷ xs) (suc n) (suc m) h k = subst (λ z. z ≤ length (drop n xs)) (omega arith) (left xs n m (omega (arith, h)) (omega (arith, k)))
-
-  none : (n m : ℕ) → m < n → m - n ≡ 0
-  none n m h = omega (arith, h)
-
-  at : (xs : List Entry) (start end : ℕ) → end ≤ length xs → take (end - start) (drop start (xs ++ more)) ≡ take (end - start) (drop start xs)
-  at xs start end h = on (split start end) where
-    split : (a b : ℕ) → (a ≤ b) ⊎ (b < a)
-    split zero b = inl (omega arith)
-    split (suc a) zero = inr (omega arith)
-    split (suc a) (suc b) = up (split a b) where
-      up : (a ≤ b) ⊎ (b < a) → (suc a ≤ suc b) ⊎ (suc b < suc a)
-      up (inl h) = inl (omega (arith, h))
-      up (inr h) = inr (omega (arith, h))
-
-    on : (start ≤ end) ⊎ (end < start) → take (end - start) (drop start (xs ++ more)) ≡ take (end - start) (drop start xs)
-    on (inl low) =
-        ap (take (end - start)) (dropped xs start (omega (arith, low, h)))
-        ∙ taken (drop start xs) (end - start) (left xs start end low h)
-    on (inr high) =
-        ap (λ z. take z (drop start (xs ++ more))) (none start end high)
-        ∙ sym (ap (λ z. take z (drop start xs)) (none start end high))
-
 order_stays : (s : State) (session : ℕ) (what : Change) (entries more : List Entry) (order : Order) → IsOrder s session what entries order
     → IsOrder s session what (entries ++ more) order
 order_stays s session what entries more order is = record {
   within = omega (arith, is.within, length-append entries more);
-  asked = subst (AreAsked (work_for s session what) s.words) (sym (part_stays entries more order is.within)) is.asked;
+  asked = subst (AreAsked (work_for s session what) s.words) (sym (range_stays entries more order.start order.end is.within)) is.asked;
   rooms = is.rooms;
   answer = is.answer;
   lost = is.lost;
 }
 
--- of the elements of a list with one more behind it: it is one of those before, or the last
-last_or : {A : Type 0} (xs : List A) (x y : A) (at : ℕ) → slice_get (xs ++ x ∷ []) at ≡ Some y
-    → (slice_get xs at ≡ Some y) ⊎ ((at ≡ length xs) × (x ≡ y))
-last_or [] x y zero e = inr (refl, same_Some x y e)
-last_or [] x y (suc zero) e = absurd (cc)
-last_or [] x y (suc (suc at)) e = absurd (cc)
-last_or (z ∷ xs) x y zero e = inl e
-last_or (z ∷ xs) x y (suc at) e = up (last_or xs x y at e) where
-  up : (slice_get xs at ≡ Some y) ⊎ ((at ≡ length xs) × (x ≡ y)) → (slice_get (z ∷ xs) (suc at) ≡ Some y) ⊎ ((suc at ≡ length (z ∷ xs)) × (x ≡ y))
-  up (inl e) = inl e
-  up (inr both) = inr (ap suc both.0, both.1)
+-- what holds of each action, and of one more, holds of all
+pub each_more : (Old New : State → Label → Order → Type 0) (setting : Setting) (change : Label → Change) (labels : List Label) (label : Label) (s : State)
+    (orders : List Order) (order : Order) → s ≡ state_of setting change labels → length orders ≡ length labels
+    → ((t : State) (one : Label) (other : Order) → Old t one other → New t one other) → New s label order
+    → ((before : ℕ) (one : Label) (other : Order) → slice_get labels before ≡ Some one → slice_get orders before ≡ Some other
+    → Old (state_of setting change (take before labels)) one other)
+    → (before : ℕ) (one : Label) (other : Order) → slice_get (labels ++ label ∷ []) before ≡ Some one
+    → slice_get (orders ++ order ∷ []) before ≡ Some other
+    → New (state_of setting change (take before (labels ++ label ∷ []))) one other
+each_more Old New setting change labels label s orders order stands count grown own are before one other e f =
+    on (last_or labels label one before e) (last_or orders order other before f) where
+      State_at : ℕ → State
+      State_at at = state_of setting change (take at (labels ++ label ∷ []))
 
-take_short : {A : Type 0} (xs ys : List A) (n : ℕ) → n ≤ length xs → take n (xs ++ ys) ≡ take n xs
-take_short xs ys zero h = refl
-take_short [] ys (suc n) h = absurd (omega (arith, h))
-take_short (x ∷ xs) ys (suc n) h = ap (λ z. x ∷ z) (take_short xs ys n (omega (arith, h)))
+      front : (at : ℕ) → at ≤ length labels → state_of setting change (take at labels) ≡ State_at at
+      front at h = ap (state_of setting change) (sym (take_short labels (label ∷ []) at h))
+
+      on : (slice_get labels before ≡ Some one) ⊎ ((before ≡ length labels) × (label ≡ one))
+          → (slice_get orders before ≡ Some other) ⊎ ((before ≡ length orders) × (order ≡ other)) → New (State_at before) one other
+      on (inl e) (inl f) =
+          subst (λ z. New z one other) (front before (omega (arith, slice_get_within labels before one e)))
+          (grown (state_of setting change (take before labels)) one other (are before one other e f))
+      on (inl e) (inr f) = absurd (omega (arith, slice_get_within labels before one e, f.0, count))
+      on (inr e) (inl f) = absurd (omega (arith, slice_get_within orders before other f, e.0, count))
+      on (inr e) (inr f) =
+          subst (λ z. New (State_at before) z other) e.1
+          (subst (λ z. New (State_at before) label z) f.1
+          (subst (λ z. New z label order)
+          (stands ∙ ap (state_of setting change) (sym (take_all before labels (omega (arith, e.0)))) ∙ front before (omega (arith, e.0)))
+          own))
+
+pub count_more : (labels : List Label) (label : Label) (orders : List Order) (order : Order) → length orders ≡ length labels
+    → length (orders ++ order ∷ []) ≡ length (labels ++ label ∷ [])
+count_more labels label orders order count =
+    length-append orders (order ∷ []) ∙ ap (λ z. z + 1) count ∙ sym (length-append labels (label ∷ []))
 
 -- one action more
 pub orders_more : (setting : Setting) (change : Label → Change) (labels : List Label) (label : Label) (s : State) (old new : List Entry)
@@ -135,63 +111,19 @@ pub orders_more : (setting : Setting) (change : Label → Change) (labels : List
     → IsNext s label.session (change label) old new order
     → AreOrders setting change (labels ++ label ∷ []) new (orders ++ order ∷ [])
 orders_more setting change labels label s old new orders order stands are next = record {
-  count = length-append orders (order ∷ []) ∙ ap (λ z. z + 1) are.count ∙ sym (length-append labels (label ∷ []));
-  each = each;
-} where
-  State_at : ℕ → State
-  State_at before = state_of setting change (take before (labels ++ label ∷ []))
-
-  front : (before : ℕ) → before ≤ length labels → state_of setting change (take before labels) ≡ State_at before
-  front before h = ap (state_of setting change) (sym (take_short labels (label ∷ []) before h))
-
-  grown : (session : ℕ) (what : Change) (t : State) (one : Order) → IsOrder t session what old one → IsOrder t session what new one
-  grown session what t one is = subst (λ z. IsOrder t session what z one) (sym next.grown) (order_stays t session what old next.more one is)
-
-  each : (before : ℕ) (one : Label) (other : Order) → slice_get (labels ++ label ∷ []) before ≡ Some one
-      → slice_get (orders ++ order ∷ []) before ≡ Some other
-      → IsOrder (State_at before) one.session (change one) new other
-  each before one other e f = on (last_or labels label one before e) (last_or orders order other before f) where
-    on : (slice_get labels before ≡ Some one) ⊎ ((before ≡ length labels) × (label ≡ one))
-        → (slice_get orders before ≡ Some other) ⊎ ((before ≡ length orders) × (order ≡ other))
-        → IsOrder (State_at before) one.session (change one) new other
-    on (inl e) (inl f) =
-        subst (λ z. IsOrder z one.session (change one) new other) (front before (omega (arith, slice_get_within labels before one e)))
-        (grown one.session (change one) (state_of setting change (take before labels)) other (are.each before one other e f))
-    on (inl e) (inr f) = absurd (omega (arith, slice_get_within labels before one e, f.0, are.count))
-    on (inr e) (inl f) = absurd (omega (arith, slice_get_within orders before other f, e.0, are.count))
-    on (inr e) (inr f) =
-        subst (λ z. IsOrder (State_at before) z.session (change z) new other) e.1
-        (subst (λ z. IsOrder (State_at before) label.session (change label) new z) f.1
-        (subst (λ z. IsOrder z label.session (change label) new order)
-        (stands ∙ ap (state_of setting change) (sym (take_all before labels (omega (arith, e.0)))) ∙ front before (omega (arith, e.0)))
-        next.order_is))
+  count = count_more labels label orders order are.count;
+  each =
+      each_more (λ t one other. IsOrder t one.session (change one) old other) (λ t one other. IsOrder t one.session (change one) new other)
+      setting change labels label s orders order stands are.count
+      (λ t one other is. subst (λ z. IsOrder t one.session (change one) z other) (sym next.grown) (order_stays t one.session (change one) old next.more other is))
+      next.order_is are.each;
+}
 
 pub none_ordered : (setting : Setting) (change : Label → Change) → AreOrders setting change [] [] []
 none_ordered setting change = record { count = refl; each = λ before label order e f. absurd (no before label e) } where
   no : (before : ℕ) (label : Label) → slice_get [] before ≡ Some label → ⊥
   no zero label e = absurd (cc)
   no (suc before) label e = absurd (cc)
-
-there : {A B : Type 0} (xs : List A) (ys : List B) (at : ℕ) (y : B) → length ys ≡ length xs → slice_get ys at ≡ Some y → (x : A) × (slice_get xs at ≡ Some x)
-there [] (y ∷ ys) at z h e = absurd (omega (arith, h))
-there [] [] zero z h e = absurd (cc)
-there [] [] (suc at) z h e = absurd (cc)
-there (x ∷ xs) [] at z h e = absurd (omega (arith, h))
-there (x ∷ xs) (y ∷ ys) zero z h e = (x, refl)
-there (x ∷ xs) (y ∷ ys) (suc at) z h e = there xs ys at z (omega (arith, h)) e
-
--- of the action of a number: what is found of it
-at_number : {A : Type 0} (give : State → Label → A) (none : A) (of : State → Option Label → A)
-    → ((s : State) (label : Label) → of s (Some label) ≡ give s label)
-    → (setting : Setting) (change : Label → Change) (labels : List Label) (before : ℕ) (label : Label) → slice_get labels before ≡ Some label
-    → of (before_action setting change labels (before + 1)) (label_at labels (before + 1)) ≡ give (state_of setting change (take before labels)) label
-at_number give none of some setting change labels before label l =
-    let next : before + 1 ≡ suc before = omega arith in
-    let last : suc before - 1 ≡ before = omega arith in
-    ap (λ n. of (before_action setting change labels n) (label_at labels n)) next
-    ∙ ap (λ z. of (before_action setting change labels (suc before)) z) l
-    ∙ some (before_action setting change labels (suc before)) label
-    ∙ ap (λ n. give (state_of setting change (take n labels)) label) last
 
 pub terms_law : WholeLaw → TermsLaw
 terms_law whole setting change facts labels entries orders are before order e =
@@ -218,6 +150,7 @@ pub none_replayed : (setting : Setting) (change : Label → Change) (admin : Sta
     → IsReplayed setting change [] admin blank kept
 unfolding state_from
 none_replayed setting change admin blank kept opens ready none empty = record {
+  infos = subst (λ z. AreInfos setting change [] kept.infos.items z) (sym empty) (none_written setting change kept.infos.items);
   stands = opens;
   ready = ready;
   orders =
@@ -226,20 +159,61 @@ none_replayed setting change admin blank kept opens ready none empty = record {
 }
 
 -- and behind one more
-pub replayed_more : StepLaw → (setting : Setting) (change : Label → Change) (labels : List Label) (label : Label) (session : ℕ) (what : Change)
-    (old new : State) (blank after : Blank) (kept more : Orders) (order : Order) → label.session ≡ session → change label ≡ what
+pub replayed_more : StepLaw → WholeLaw → (setting : Setting) (change : Label → Change) (labels : List Label) (label : Label) (session : ℕ) (what : Change)
+    (old new : State) (blank after : Blank) (kept more : Orders) (asked order : Order) → label.session ≡ session → change label ≡ what
     → IsReplayed setting change labels old blank kept → new ≡ stepped old session what → IsReady new.words after
-    → IsNext old session what kept.entries.entries more.entries.entries order → more.orders.items ≡ kept.orders.items ++ order ∷ []
+    → IsNext old session what kept.entries.entries more.entries.entries asked
+    → AreWritten (work_for old session what).signs after.contents.items
+    → order ≡ record asked { first_info = length kept.infos.items; end_info = length more.infos.items }
+    → (asked.end ≤ length more.entries.entries
+    → more.infos.items ≡ kept.infos.items ++ flat_map (info_of after.contents.items) (entries_in more.entries.entries asked))
+    → more.orders.items ≡ kept.orders.items ++ order ∷ []
     → IsReplayed setting change (labels ++ label ∷ []) new after more
-replayed_more law setting change labels label session what old new blank after kept more order own named replayed step ready next grown = record {
+replayed_more law whole setting change labels label session what old new blank after kept more asked order own named replayed step ready next written ranged infos grown = record {
   stands = step ∙ (law session what old).stands setting change labels label own named replayed.stands;
   ready = ready;
   orders =
       subst (λ z. AreOrders setting change (labels ++ label ∷ []) more.entries.entries z) (sym grown)
       (orders_more setting change labels label old kept.entries.entries more.entries.entries kept.orders.items order replayed.stands replayed.orders
       (subst (λ z. IsNext old z (change label) kept.entries.entries more.entries.entries order) (sym own)
-      (subst (λ z. IsNext old session z kept.entries.entries more.entries.entries order) (sym named) next)));
-}
+      (subst (λ z. IsNext old session z kept.entries.entries more.entries.entries order) (sym named) placed)));
+  infos =
+      subst (λ z. AreInfos setting change (labels ++ label ∷ []) more.infos.items z) (sym grown) (record {
+        count = count_more labels label kept.orders.items order replayed.infos.count;
+        each =
+            each_more (λ t one other. HasInfos (work_for t one.session (change one)).signs kept.infos.items other)
+            (λ t one other. HasInfos (work_for t one.session (change one)).signs more.infos.items other)
+            setting change labels label old kept.orders.items order replayed.stands replayed.infos.count
+            (λ t one other is. subst (λ z. HasInfos (work_for t one.session (change one)).signs z other) (sym added)
+            (infos_stay (work_for t one.session (change one)).signs kept.infos.items _ other is))
+            (subst (λ z. HasInfos (work_for old z (change label)).signs more.infos.items order) (sym own)
+            (subst (λ z. HasInfos (work_for old session z).signs more.infos.items order) (sym named) here))
+            replayed.infos.each;
+      });
+} where
+  placed : IsNext old session what kept.entries.entries more.entries.entries order
+  placed =
+      subst (IsNext old session what kept.entries.entries more.entries.entries) (sym ranged) (record {
+        more = next.more;
+        grown = next.grown;
+        order_is = record {
+          within = next.order_is.within;
+          asked = next.order_is.asked;
+          rooms = next.order_is.rooms;
+          answer = next.order_is.answer;
+          lost = next.order_is.lost;
+        };
+      })
+
+  added : more.infos.items ≡ kept.infos.items ++ flat_map (info_of after.contents.items) (entries_in more.entries.entries asked)
+  added = infos next.order_is.within
+
+  here : HasInfos (work_for old session what).signs more.infos.items order
+  here =
+      subst (HasInfos (work_for old session what).signs more.infos.items) (sym ranged)
+      (has_infos whole (work_for old session what) old.words (entries_in more.entries.entries asked) after.contents.items kept.infos.items more.infos.items
+      (record asked { first_info = length kept.infos.items; end_info = length more.infos.items }) refl refl added next.order_is.asked
+      (have_words setting change labels session what old after.contents.items replayed.stands written))
 
 -- a label more of those that were passed
 pub labels_more : (labels : List Label) (i : ℕ) (first : Label) (P : List Label → Type 0) → i < length labels

@@ -1,2 +1,3 @@
 pub mod ActionOrders
+pub mod InfoWords
 pub mod Replays

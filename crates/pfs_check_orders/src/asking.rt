@@ -7,7 +7,8 @@ ghost use Rattle.pfs_admin.specs.declared.changes.Change.TheVariants as changes;
 ghost use Rattle.pfs_admin.specs.declared.changes.SetupStatement.TheVariants as statements;
 ghost use Rattle.pfs_law_session.specs.Demands.{rooms_of};
 ghost use Rattle.pfs_law_session.specs.Orders.{no_rooms};
-ghost use Rattle.pfs_check_blank.specs.AllAsked.{IsAsked};
+ghost use Rattle.pfs_check_blank.specs.AllAsked.{AreWritten, IsAsked};
+ghost use Rattle.pfs_runs.specs.Labels.{work_for};
 ghost use Rattle.pfs_check_blank.specs.ReadyStores.{IsReady};
 ghost use Rattle.pfs_check_orders.specs.ActionOrders.{IsNamed, IsNext};
 
@@ -44,6 +45,8 @@ fn order_from(start: usize, log: &Log, reply: Reply, lost: Lost) -> Order
     Order {
         start,
         end: log.count(),
+        first_info: 0,
+        end_info: 0,
         placed: nowhere(),
         reply,
         lost,
@@ -65,6 +68,7 @@ fn connect(
     ensures step { admin.new ≡ stepped admin.old session (changes.Connect user host) }
     ensures ready { IsReady admin.new.words blank.new }
     ensures next { IsNext admin.old session (changes.Connect user host) log.old.entries log.new.entries result }
+    ensures written { AreWritten (work_for admin.old session (changes.Connect user host)).signs blank.new.contents.items }
 {
     let start = log.count() + 1;
     let placed = ask_connect(admin, blank, session, user, host, log);
@@ -72,6 +76,8 @@ fn connect(
     Order {
         start,
         end: log.count(),
+        first_info: 0,
+        end_info: 0,
         placed,
         reply: Reply::Changed(0),
         lost,
@@ -85,6 +91,7 @@ fn quit(admin: &mut Admin, blank: &mut Blank, log: &mut Log, session: u64) -> Or
     ensures step { admin.new ≡ stepped admin.old session changes.Quit }
     ensures ready { IsReady admin.new.words blank.new }
     ensures next { IsNext admin.old session changes.Quit log.old.entries log.new.entries result }
+    ensures written { AreWritten (work_for admin.old session changes.Quit).signs blank.new.contents.items }
 {
     let start = log.count();
     ask_quit(admin, blank, session, log);
@@ -105,6 +112,7 @@ fn truncate(
     ensures step { admin.new ≡ stepped admin.old session (changes.Truncate what) }
     ensures ready { IsReady admin.new.words blank.new }
     ensures next { IsNext admin.old session (changes.Truncate what) log.old.entries log.new.entries result }
+    ensures written { AreWritten (work_for admin.old session (changes.Truncate what)).signs blank.new.contents.items }
 {
     let _ = session;
     let start = log.count();
@@ -163,8 +171,8 @@ fn change(
     Ok(order_from(start, log, reply, lost))
 }
 
-/// An action of a session in the administration: the log gets all that it may ask for. Err where memory runs out for a
-/// copy of a new row.
+/// An action of a session in the administration: the log gets all that it may ask for, the store the words of the info
+/// rows that it writes; none are named in the order. Err where memory runs out for a copy of a new row.
 pub(crate) fn ask(
     admin: &mut Admin,
     blank: &mut Blank,
@@ -179,6 +187,7 @@ pub(crate) fn ask(
     ensures step { OnOk result (admin.new ≡ stepped admin.old session what.now) }
     ensures ready { OnOk result (IsReady admin.new.words blank.new) }
     ensures next { IfOk result (IsNext admin.old session what.now log.old.entries log.new.entries) }
+    ensures written { OnOk result (AreWritten (work_for admin.old session what.now).signs blank.new.contents.items) }
 {
     match what {
         Change::Connect { user, host } => { Ok(connect(admin, blank, log, session, *user, *host)) }

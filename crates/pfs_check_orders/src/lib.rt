@@ -4,10 +4,12 @@
 
 mod asking;
 mod copies;
+mod infos;
 pub mod laws;
 mod orders;
 mod replaying;
 
+pub use infos::Info;
 pub use orders::{Order, Orders};
 pub use replaying::replay;
 

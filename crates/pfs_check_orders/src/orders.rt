@@ -1,5 +1,6 @@
 //! What is kept of each action.
 
+use crate::infos::Info;
 use pfs_admin::{Placed, Reply};
 use pfs_containers::Lost;
 use pfs_event::Log;
@@ -11,6 +12,10 @@ pub struct Order {
     pub start: usize,
     /// Where it ends there.
     pub end: usize,
+    /// Where the info rows that it writes begin among those of all actions.
+    pub first_info: usize,
+    /// Where they end there.
+    pub end_info: usize,
     /// The places that a connect got; none of another action.
     pub placed: Placed,
     /// What it is answered; no rows where it has no answer.
@@ -24,6 +29,8 @@ pub struct Order {
 pub struct Orders {
     /// All that they may ask for, one action after another.
     pub entries: Log,
+    /// The info rows that they write, one action after another, each action's in the order in which it writes them.
+    pub infos: Vec<Info>,
     /// By their numbers, from 1 on.
     pub orders: Vec<Order>,
 }

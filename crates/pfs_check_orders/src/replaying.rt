@@ -12,10 +12,12 @@ ghost use Rattle.pfs_runs.specs.ScriptLines.{change_in};
 ghost use Rattle.pfs_check_blank.specs.ReadyStores.{IsReady};
 ghost use Rattle.pfs_check_changes.specs.ActionNumbers.{show_if};
 ghost use Rattle.pfs_check_orders.specs.ActionOrders.{AreOrders, IsNamed};
+ghost use Rattle.pfs_check_orders.specs.InfoWords.{AreInfos};
 ghost use Rattle.pfs_check_orders.specs.Replays.{IsReplayed};
 
 use crate::NoMemory;
 use crate::asking::ask;
+use crate::infos::keep_infos;
 use crate::orders::Orders;
 use pfs_admin::{Admin, Change, SetupStatement, opening_flags};
 use pfs_board::Label;
@@ -76,6 +78,7 @@ impl Replayed {
         let blank = blank_of(alloc, setting, &admin)?;
         let kept = Orders {
             entries: Log::new(alloc),
+            infos: Vec::new(alloc),
             orders: Vec::new(alloc),
         };
         Ok(Replayed { admin, blank, kept })
@@ -95,6 +98,7 @@ impl Replayed {
             return Err(AllocError);
         }
         pfs_admin::laws::one_label_more();
+        pfs_check_blank::laws::asks();
         make_room(&mut self.kept.entries)?;
         let order = ask(
             &mut self.admin,
@@ -103,6 +107,7 @@ impl Replayed {
             session,
             what,
         )?;
+        let order = keep_infos(&mut self.kept.infos, &self.blank, &self.kept.entries, order)?;
         self.kept.orders.push(order)?;
         Ok(())
     }
@@ -117,7 +122,9 @@ pub fn replay(
     labels: &[Label],
 ) -> Result<Orders, NoMemory>
     requires { (label : Label) → IsNamed setting.now.names (change_in phases.now label) }
-    ensures { IfOk result (λ kept. AreOrders setting.now (change_in phases.now) labels.now kept.entries.entries
+    ensures orders { IfOk result (λ kept. AreOrders setting.now (change_in phases.now) labels.now kept.entries.entries
+        kept.orders.items) }
+    ensures infos { IfOk result (λ kept. AreInfos setting.now (change_in phases.now) labels.now kept.infos.items
         kept.orders.items) }
 {
     pfs_admin::laws::names_and_cells_stay();

@@ -3,6 +3,7 @@ use Rattle.std.proofs.lemmas.List.{take_all}
 use Rattle.pfs_board.specs.declared.view.Label.{Label}
 use Rattle.pfs_runs.specs.ScriptLines.{change_in}
 use Rattle.pfs_check_orders.specs.ActionOrders.{AreOrders}
+use Rattle.pfs_check_orders.specs.InfoWords.{AreInfos}
 use Rattle.pfs_check_orders.specs.Replays.{IsReplayed}
 use Rattle.pfs_check_orders.proofs.OrderFacts.{labels_more, named_still}
 use Rattle.pfs_check_orders.proofs.replaying.replay.Goals as goal
@@ -28,7 +29,12 @@ loop-label-preserved c =
     (get_or c.args.labels.now c.loop-label.label-index first) refl
     (sym (c.change_or-what.ensures refl ∙ c.change.ensures c.args.phases.now c.in_ok-actions.ensures)) c.loop-label.invariant)
 
-pub returns : goal.returns
-returns c =
+pub returns-clause-orders : goal.returns-clause-orders
+returns-clause-orders c =
     subst (λ z. AreOrders c.args.setting.now (change_in c.args.phases.now) z c.loop-label.replay.kept.entries.entries c.loop-label.replay.kept.orders.items)
     (take_all c.loop-label.label-index c.args.labels.now c.loop-label-test.false) c.loop-label.invariant.orders
+
+pub returns-clause-infos : goal.returns-clause-infos
+returns-clause-infos c =
+    subst (λ z. AreInfos c.args.setting.now (change_in c.args.phases.now) z c.loop-label.replay.kept.infos.items c.loop-label.replay.kept.orders.items)
+    (take_all c.loop-label.label-index c.args.labels.now c.loop-label-test.false) c.loop-label.invariant.infos
