@@ -1,0 +1,2 @@
+mod MadeOnce
+mod WalkFacts

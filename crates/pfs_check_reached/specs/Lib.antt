@@ -1,0 +1,2 @@
+pub mod MadeWords
+pub mod ReachedChanges

@@ -1,0 +1,12 @@
+//! What the changes of a report make of its rows, in whatever order they stand.
+#![tactic(auto)]
+
+mod reached;
+mod reaching;
+mod waiting;
+
+pub use reached::Reached;
+pub use reaching::reach;
+
+/// Memory ran out.
+pub type NoMemory = std::alloc::AllocError;
