@@ -1,5 +1,0 @@
-mod BoolFacts
-mod DerivationSteps
-mod LastDerivations
-mod MadeContents
-mod NeedSteps

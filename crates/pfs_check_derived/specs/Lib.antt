@@ -1,3 +1,0 @@
-pub mod ChangeNeeds
-pub mod DerivedContents
-pub mod Derivations
