@@ -10,6 +10,7 @@ mod MovesKept
 mod OneJudgement
 mod OneLabels
 mod RisingFacts
+mod RuleOrder
 mod RunRules
 pub mod SetCounts
 pub mod SetsOnce

@@ -1,5 +1,5 @@
 -- The rules of a report, one by one: when each is kept, at which lines it fails, and what is judged of a report.
-use Rattle.std.specs.Prelude.{ℕ, ◌≡◌, ◌↔◌, ◌<◌, ◌⊎◌, List, [], Err}
+use Rattle.std.specs.Prelude.{ℕ, ◌≡◌, ◌↔◌, ◌+◌, ◌<◌, ◌⊎◌, List, [], Err}
 use Rattle.pfs_event.specs.declared.entry.Entry.{Entry}
 use Rattle.pfs_journal.specs.declared.report.PhaseParts.{PhaseParts}
 use Rattle.pfs_model.specs.Actions.{AreRising, NeverFall, deeds_of, numbers_by, sets_of}
@@ -151,6 +151,15 @@ pub record IsFirstFault (rule : Rule) (case : Case) (found : Findings) (line : �
 
 abbrev pub KeepBefore : Rule → Case → Findings → Type 0
 KeepBefore rule case found = (other : Rule) → order other < order rule → Keeps other case found
+
+-- A rule that is kept behind those before it leaves all before the next one kept; and behind the last one all are.
+abbrev pub NextRule : Type 0
+NextRule = (rule next : Rule) (case : Case) (found : Findings) → order next ≡ order rule + 1 → KeepBefore rule case found
+    → Keeps rule case found → KeepBefore next case found
+
+abbrev pub LastRule : Type 0
+LastRule = (case : Case) (found : Findings) → KeepBefore rules.Lost case found → Keeps rules.Lost case found
+    → (rule : Rule) → Keeps rule case found
 
 -- All rules are kept.
 pub record IsGood (case : Case) : Type 0 where
