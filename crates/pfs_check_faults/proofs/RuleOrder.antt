@@ -3,7 +3,7 @@ use Rattle.std.proofs.Common.{◌≡◌, refl, ℕ, zero, suc, ◌+◌, ◌<◌,
 use Rattle.std.proofs.lemmas.Bool.Decides.{nat_tests}
 use Rattle.pfs_check_faults.specs.declared.rules.Rule.{Rule}
 use Rattle.pfs_check_faults.specs.declared.rules.Rule.TheVariants as rules
-use Rattle.pfs_check_faults.specs.Judgements.{KeepBefore, Keeps, LastRule, NextRule, order}
+use Rattle.pfs_check_faults.specs.Judgements.{FirstRule, KeepBefore, Keeps, LastRule, NextRule, order}
 use Rattle.pfs_check_faults.specs.ReportCases.{Case, Findings}
 
 rule_at : ℕ → Rule
@@ -53,6 +53,23 @@ kept rule case found before keeps bound next other low = at (order other == orde
 
 pub next_rule : NextRule
 next_rule rule next case found follows before keeps = kept rule case found before keeps (order next) follows
+
+above : (rule : Rule) → 0 < order rule
+above rules.Shape = omega arith
+above rules.Actions = omega arith
+above rules.Chain = omega arith
+above rules.Setup = omega arith
+above rules.Seen = omega arith
+above rules.Verdict = omega arith
+above rules.Numbers = omega arith
+above rules.Moves = omega arith
+above rules.Rings = omega arith
+above rules.Queries = omega arith
+above rules.Tables = omega arith
+above rules.Lost = omega arith
+
+pub first_rule : FirstRule
+first_rule case found other low = absurd (let high = above other in omega (arith, low, high))
 
 below : (rule : Rule) → order rule < 13
 below rules.Shape = omega arith

@@ -152,7 +152,11 @@ pub record IsFirstFault (rule : Rule) (case : Case) (found : Findings) (line : �
 abbrev pub KeepBefore : Rule → Case → Findings → Type 0
 KeepBefore rule case found = (other : Rule) → order other < order rule → Keeps other case found
 
--- A rule that is kept behind those before it leaves all before the next one kept; and behind the last one all are.
+-- No rule is before the first; one that is kept behind those before it leaves all before the next one kept; and behind
+-- the last one all are.
+abbrev pub FirstRule : Type 0
+FirstRule = (case : Case) (found : Findings) → KeepBefore rules.Shape case found
+
 abbrev pub NextRule : Type 0
 NextRule = (rule next : Rule) (case : Case) (found : Findings) → order next ≡ order rule + 1 → KeepBefore rule case found
     → Keeps rule case found → KeepBefore next case found

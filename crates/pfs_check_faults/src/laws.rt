@@ -2,7 +2,7 @@
 
 ghost use Rattle.pfs_check_faults.specs.EntryFaults.{ChainLaw, RisingLaw};
 ghost use Rattle.pfs_check_faults.specs.FaultExamples.{WorkedCases, WorkedShapes};
-ghost use Rattle.pfs_check_faults.specs.Judgements.{LastRule, NextRule, OneJudgement, RunLaw};
+ghost use Rattle.pfs_check_faults.specs.Judgements.{FirstRule, LastRule, NextRule, OneJudgement, RunLaw};
 ghost use Rattle.pfs_check_faults.specs.ShapeFaults.{CutLaw, OneCut};
 
 /// A report is cut into blocks exactly where its phases and blocks are the script's and each journal has its shape; and
@@ -32,6 +32,7 @@ pub fn judgements()
 /// The rules can be asked one after another: what keeps a rule behind those before it keeps all before the next one, and
 /// behind the last one all.
 pub fn order()
+    ensures first { FirstRule }
     ensures next { NextRule }
     ensures last { LastRule }
 {}
