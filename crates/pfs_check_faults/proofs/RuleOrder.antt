@@ -1,12 +1,12 @@
 -- The rules stand in an order, each at a place of its own.
-use Rattle.std.proofs.Common.{◌≡◌, refl, ℕ, zero, suc, ◌+◌, ◌<◌, ◌≤◌, ◌==◌, Bool, true, false, sym, ◌∙◌, ap, subst, arith}
+use Rattle.std.proofs.Common.{◌≡◌, refl, ℕ, zero, suc, ◌+◌, ◌<◌, ◌==◌, Bool, true, false, sym, ◌∙◌, ap, subst, arith}
 use Rattle.std.proofs.lemmas.Bool.Decides.{nat_tests}
 use Rattle.pfs_check_faults.specs.declared.rules.Rule.{Rule}
 use Rattle.pfs_check_faults.specs.declared.rules.Rule.TheVariants as rules
 use Rattle.pfs_check_faults.specs.Judgements.{FirstRule, KeepBefore, Keeps, LastRule, NextRule, order}
 use Rattle.pfs_check_faults.specs.ReportCases.{Case, Findings}
 
-rule_at : ℕ → Rule
+abbrev rule_at : ℕ → Rule
 rule_at (suc zero) = rules.Shape
 rule_at (suc (suc zero)) = rules.Actions
 rule_at (suc (suc (suc zero))) = rules.Chain
