@@ -1,0 +1,9 @@
+mod AnswerLines
+mod EntryReadings
+mod FreeWords
+mod HeldAnswers
+mod Misreads
+mod ReadPrefixes
+mod RowDifferences
+mod StoredAnswers
+mod WalkSteps

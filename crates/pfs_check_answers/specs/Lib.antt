@@ -1,0 +1,4 @@
+pub mod AnswerJudgements
+pub mod RowCounts
+pub mod SelectParts
+pub mod SelectReadings
