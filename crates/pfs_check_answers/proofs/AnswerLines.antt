@@ -1,7 +1,7 @@
 -- The entries and rows of a SELECT against those that are due: where the first of them is wrong.
 use Rattle.std.proofs.Common.{◌≡◌, refl, ℕ, zero, suc, ◌+◌, ◌≤◌, Bool, true, false, List, [], ◌∷◌, ◌++◌, length, map, take, drop, get_or, sym, ◌∙◌, ap, subst, ◌⊎◌, inl, inr, arith}
 use Rattle.std.specs.Prelude.{All, if◌then◌else◌}
-use Rattle.std.proofs.lemmas.List.{append-nil, length-append}
+use Rattle.std.proofs.lemmas.List.{append-nil, length-append, length-map}
 use Rattle.std.proofs.lemmas.List.Elements.{All-head, All-tail}
 use Rattle.pfs_classes.specs.declared.setting.Setting.{Setting}
 use Rattle.pfs_event.specs.declared.entry.Entry.{Entry}
@@ -77,6 +77,24 @@ lines_long (entry ∷ part) answers = on (is_answered entry) (λ given. lines_lo
       let e : length ((lines.Entry entry ∷ row_lines (get_or answers 0 [])) ++ journal_lines part (drop 1 answers)) ≡ suc (length (row_lines (get_or answers 0 [])) + length (journal_lines part (drop 1 answers))) =
       ap suc (length-append (row_lines (get_or answers 0 [])) (journal_lines part (drop 1 answers))) in
       omega (arith, r, e)
+
+-- as many as its entries and rows
+pub lines_count : (opening : List Entry) (number : ℕ) (rows : Answer) → NoneAnswered opening
+    → length (journal_lines (opening ++ says.Rows number ∷ []) (rows ∷ [])) ≡ length (opening ++ says.Rows number ∷ []) + length rows
+lines_count opening number rows none =
+    ap length (front_lines opening number rows none)
+    ∙ (length-append (fronts opening number) (row_lines rows)
+    ∙ (ap (λ n. n + length (row_lines rows)) (fronts_long opening number ∙ sym (part_long opening number))
+    ∙ ap (λ n. length (opening ++ says.Rows number ∷ []) + n) (length-map rows lines.Row)))
+
+-- and of entries without an answer as many as they are
+pub silent_long : (part : List Entry) → length (journal_lines part []) ≡ length part
+silent_long [] = refl
+silent_long (entry ∷ part) = on (is_answered entry) (silent_long part) where
+  on : (b : Bool) → length (journal_lines part []) ≡ length part
+      → length ((lines.Entry entry ∷ (if b then row_lines (get_or {A = Answer} [] 0 []) else [])) ++ journal_lines part (if b then drop 1 [] else [])) ≡ suc (length part)
+  on true rest = ap suc rest
+  on false rest = ap suc rest
 
 entry_in : Line → Entry
 entry_in (lines.Entry entry) = entry

@@ -3,6 +3,8 @@
 
 mod answered;
 mod answers;
+mod block_lines;
+mod blocks;
 mod comparing;
 mod counting;
 mod readings;
@@ -12,6 +14,7 @@ mod walking;
 
 pub use answered::Answered;
 pub use answers::{judge_held, judge_stored};
+pub use blocks::judge_block;
 pub use shows::Shows;
 pub use versions::Versions;
 
