@@ -20,4 +20,6 @@ mod rings;
 #[cfg(test)]
 mod seen;
 #[cfg(test)]
+mod selects;
+#[cfg(test)]
 mod visits;

@@ -1,0 +1,13 @@
+mod AnswerLines
+mod BlockWalk
+mod EntryReadings
+mod FreeWords
+mod HeldAnswers
+mod LineSteps
+mod Misreads
+mod PartEntries
+mod ReadPrefixes
+mod RowDifferences
+mod SelectSteps
+mod StoredAnswers
+mod WalkSteps
