@@ -180,7 +180,7 @@ last_or number count h = at (number == suc count) refl where
 
 module _ (report : ReportParts) (given : Given) (shelf : Shelf) (asked : ℕ → Asked) (all : List Placed) (printed : BTreeMap ℕ (Vec Entry Global))
     (actions : Versions) (knows : KnowsMoves report given shelf all printed actions) where
-  kept_fails : (line number : ℕ) (f : MovesFail report given asked all line) → f.number ≡ number → AreMoved shelf asked all number → ⊥
+  pub kept_fails : (line number : ℕ) (f : MovesFail report given asked all line) → f.number ≡ number → AreMoved shelf asked all number → ⊥
   kept_fails line number f same moved =
       f.wrong (subst (λ z. MovesUpTo given asked all z f.at) (sym same) (moved_up_to given shelf all knows.kept knows.before asked number moved f.at))
 

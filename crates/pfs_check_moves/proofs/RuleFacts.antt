@@ -1,5 +1,8 @@
--- The eighth rule of a report whose actions never fall along a row.
-use Rattle.std.proofs.Common.{◌≡◌, refl, ℕ, zero, suc, ◌-◌, ◌<◌, ◌≤◌, ◌⊎◌, inl, inr, ◌==◌, not, Bool, true, false, ◌&&◌, cond, nat_lt, nat_le, List, [], ◌∷◌, ◌++◌, length, sym, ◌∙◌, ap, subst, arith, append_assoc, Some, None}
+-- The eighth rule of a report.
+use Rattle.std.proofs.Common.{◌≡◌, refl, ℕ, zero, suc, ◌+◌, ◌-◌, ◌<◌, ◌≤◌, ◌⊎◌, inl, inr, ◌==◌, not, Bool, true, false, ◌&&◌, cond, nat_lt, nat_le, List, [], ◌∷◌, ◌++◌, length, sym, ◌∙◌, ap, subst, arith, append_assoc, Option, Some, None}
+use Rattle.std.specs.BTreeMap.{BTreeMap}
+use Rattle.std.specs.Prelude.{Vec}
+use Rattle.std.specs.declared.alloc.Global.{Global}
 use Rattle.std.proofs.lemmas.Bool.Decides.{nat_tests}
 use Rattle.pfs_event.specs.declared.entry.Entry.{Entry}
 use Rattle.pfs_event.specs.declared.entry.Entry.TheVariants as says
@@ -8,7 +11,7 @@ use Rattle.pfs_stat.specs.Stat.{stat_of_words}
 use Rattle.pfs_model.specs.declared.changes.Change.{Change}
 use Rattle.pfs_model.specs.ActionAsks.{Asked, asked_of, did, flagged_by, moved_by, of_action, signed_by}
 use Rattle.pfs_model.specs.Actions.{Deed, IsAmong, NeverFall, deed_at, deeds_of, is_acted}
-use Rattle.pfs_model.specs.Chains.{AreChained, Each, action_change, change_at, each_of, is_of, is_that, row_change, times}
+use Rattle.pfs_model.specs.Chains.{AreChained, Each, IsChained, action_change, change_at, each_of, is_of, is_that, row_change, times}
 use Rattle.pfs_model.specs.Contents.{AreFoundAsCounted, IsFoundAsCounted}
 use Rattle.pfs_model.specs.EntryPlaces.{Placed}
 use Rattle.pfs_runs.specs.Runs.{all_blocks}
@@ -17,20 +20,22 @@ use Rattle.pfs_check_contents.specs.declared.shelf.Shelf.{Shelf}
 use Rattle.pfs_check_contents.specs.KeptContents.{IsHad}
 use Rattle.pfs_check_faults.specs.declared.rules.Rule.TheVariants as rules
 use Rattle.pfs_check_faults.proofs.ActedEntries.{HasAction, SaysAbove, blocks_acted}
-use Rattle.pfs_check_faults.proofs.ChainFacts.{among_times, bit_yes}
+use Rattle.pfs_check_faults.proofs.ChainFacts.{all_phases, among_times, bit_yes, that_is, top}
 use Rattle.pfs_check_faults.proofs.MemberCounts.{among_left, among_right, each_among, each_at, self_is}
 use Rattle.pfs_check_faults.specs.ActionFaults.{IsPredecessor, MovesFail, NeverFallsAt, flagging_at, moving_at}
 use Rattle.pfs_check_faults.specs.Judgements.{Fails, IsFirstFault, KeepBefore}
 use Rattle.pfs_check_faults.specs.ReportCases.{Case, Findings, Lacks, LacksOn, entries_of, terms_in}
 use Rattle.pfs_law_acted.specs.ActedParts.{ActedLaw, IdleLaw}
-use Rattle.pfs_law_made.specs.MadeContents.{BeforeLaw, IsKeptAsMade, KeptLaw}
+use Rattle.pfs_law_made.specs.MadeContents.{IsKeptAsMade, KeptLaw}
 use Rattle.pfs_check_orders.specs.declared.orders.Orders.{Orders}
+use Rattle.pfs_check_versions.specs.declared.judging.Versions.{Versions}
+use Rattle.pfs_check_visits.specs.ReportVisits.{IsFirstLacking}
 use Rattle.pfs_check_moves.specs.AskedMoves.{AreOrdered}
 use Rattle.pfs_check_moves.specs.FoundTakes.{FindsAs}
-use Rattle.pfs_check_moves.specs.MovesRules.{AreActionsMoved, AreMoved, AreOrdersIn, IsShelfIn, KeepsMovesBy, counted_of, given_in, own_moves}
+use Rattle.pfs_check_moves.specs.MovesRules.{AreActionsMoved, AreMoved, AreOrdersIn, IsShelfIn, KeepsMovesBy, KnowsMoves, counted_of, given_in, lower_of, own_moves}
 use Rattle.pfs_check_moves.specs.PrintedMoves.{is_moving, moving}
 use Rattle.pfs_check_moves.proofs.DueFacts.{none_asked, order_at}
-use Rattle.pfs_check_moves.proofs.FaultFacts.{all_actions, fails_within, whole_actions}
+use Rattle.pfs_check_moves.proofs.FaultFacts.{all_actions, fails_within, kept_fails, whole_actions}
 
 pub actions_chained : (case : Case) (found : Findings) → KeepBefore rules.Moves case found → AreChained action_change (entries_of found)
 actions_chained case found keeps = (keeps rules.Actions (omega arith)).numbers
@@ -47,10 +52,44 @@ are_ordered case found orders keeps are = record {
 pub is_kept : KeptLaw → (case : Case) (found : Findings) (shelf : Shelf) → IsShelfIn case found shelf → IsKeptAsMade (given_in case found) (entries_of found) shelf
 is_kept law case found shelf is = law (given_in case found) (entries_of found) is.changes shelf is.made_of is.orderly is.shelf_is
 
-pub had_before : BeforeLaw → (case : Case) (found : Findings) (shelf : Shelf) → IsShelfIn case found shelf → (place : Placed) (row version : ℕ)
+-- what is changed had the version before
+some_among : (change : Change) (changes : List Change) → 0 < times (is_that change) changes → IsAmong change changes
+some_among change [] l = absurd (omega (arith, l))
+some_among change (c ∷ cs) l = on (is_that change c) refl l (some_among change cs) where
+  on : (b : Bool) → is_that change c ≡ b → 0 < cond b 1 0 + times (is_that change) cs → (0 < times (is_that change) cs → IsAmong change cs)
+      → IsAmong change (c ∷ cs)
+  on true e l go = inl (that_is change c e)
+  on false e l go = inr (go (omega (arith, l)))
+
+list_among : (ps : List Placed) (p : Placed) (change : Change) → IsAmong p ps → row_change p.entry ≡ change ∷ [] → IsAmong change (each_of row_change ps)
+list_among [] p change i e = absurd i
+list_among (q ∷ qs) p change (inl same) e =
+    among_left change (row_change q.entry) (each_of row_change qs)
+    (subst (IsAmong change) (sym (ap (λ (z : Placed). row_change z.entry) same ∙ e)) (inl refl))
+list_among (q ∷ qs) p change (inr i) e = among_right change (row_change q.entry) (each_of row_change qs) (list_among qs p change i e)
+
+pub had_before : (case : Case) (found : Findings) → KeepBefore rules.Moves case found → (place : Placed) (row version : ℕ)
     → IsAmong place (entries_of found) → place.entry ≡ says.Take row version → IsHad (entries_of found) row (version - 1)
-had_before law case found shelf is place row version i e =
-    law (given_in case found) (entries_of found) is.changes place row version is.made_of is.orderly i (ap row_change e)
+had_before case found keeps place row version i e = by (version - 1 == 0) refl where
+  chained : IsChained (each_of row_change (entries_of found))
+  chained = subst (λ z. IsChained (each_of row_change z)) (all_phases (entries_of found)) (keeps rules.Chain (omega arith) (top (entries_of found)))
+
+  bits : (nat_lt 0 version ≡ true) × (nat_le version (times (is_of row) (each_of row_change (entries_of found))) ≡ true)
+  bits =
+      bit_yes (nat_lt 0 version) (nat_le version (times (is_of row) (each_of row_change (entries_of found))))
+      (omega (
+        arith,
+        chained (change_at row version),
+        among_times (change_at row version) (each_of row_change (entries_of found)) (list_among (entries_of found) place (change_at row version) i (ap row_change e)),
+      ))
+
+  by : (b : Bool) → (version - 1 == 0) ≡ b → IsHad (entries_of found) row (version - 1)
+  by true z = inl (grind (arith, nat_tests))
+  by false z =
+      inr (some_among (change_at row (version - 1)) (each_of row_change (entries_of found))
+      (omega (arith, chained (change_at row (version - 1)), bit (version - 1) version (times (is_of row) (each_of row_change (entries_of found))) z refl bits.1))) where
+        bit : (n v m : ℕ) → (n == 0) ≡ false → n ≡ v - 1 → nat_le v m ≡ true → cond {A = ℕ} (nat_lt 0 n && nat_le n m) 1 0 ≡ 1
+        bit n v m z q h = grind (arith, nat_tests)
 
 -- where they never fall, no entry falls
 deed_among : (all : List Placed) (p : Placed) (deed : Deed) → IsAmong p all → IsAmong deed (deed_at p.context.action p.entry) → IsAmong deed (deeds_of all)
@@ -202,12 +241,12 @@ module _ (case : Case) (found : Findings) (shelf : Shelf) (is : IsShelfIn case f
     };
   }
 
-pub moves_kept : ActedLaw → IdleLaw → BeforeLaw → (case : Case) (found : Findings) (shelf : Shelf) (orders : Orders) (report : ReportParts)
+pub moves_kept : ActedLaw → IdleLaw → (case : Case) (found : Findings) (shelf : Shelf) (orders : Orders) (report : ReportParts)
     → KeepBefore rules.Moves case found → NeverFall (deeds_of (entries_of found)) → IsShelfIn case found shelf → AreOrdersIn case found orders
     → AreActionsMoved report (given_in case found) shelf (terms_in case found).asked (entries_of found) (length orders.orders.items) None
     → KeepsMovesBy case found shelf
-moves_kept law idle earlier case found shelf orders report keeps never is are asked =
-    keeps_moves case found shelf is keeps moved (had_before earlier case found shelf is) law never where
+moves_kept law idle case found shelf orders report keeps never is are asked =
+    keeps_moves case found shelf is keeps moved (had_before case found keeps) law never where
       few : length orders.orders.items ≡ length (each_of action_change (entries_of found))
       few = are.count ∙ (keeps rules.Actions (omega arith)).labelled.few
 
@@ -221,3 +260,46 @@ moves_kept law idle earlier case found shelf orders report keeps never is are as
             idle_moved shelf (terms_in case found).asked (entries_of found) number
             (idle (all_blocks found.blocks) number (keeps rules.Shape (omega arith)).shaped positive
             (none_says (entries_of found) number (actions_chained case found keeps) (omega (arith, high, few)))) none.0 none.1
+
+-- where they fall, the first line is the lower of both
+pub fallen : (case : Case) (found : Findings) (shelf : Shelf) (orders : Orders) (report : ReportParts) (printed : BTreeMap ℕ (Vec Entry Global)) (actions : Versions)
+    (fall : ℕ) (line : Option ℕ) → case.report ≡ report → KeepBefore rules.Moves case found → AreOrdersIn case found orders
+    → KnowsMoves report (given_in case found) shelf (entries_of found) printed actions
+    → IsFirstLacking case.report (NeverFallsAt (entries_of found)) (entries_of found) fall
+    → AreActionsMoved report (given_in case found) shelf (terms_in case found).asked (entries_of found) (length orders.orders.items) line
+    → IsFirstFault rules.Moves case found (lower_of fall line)
+fallen case found shelf orders report printed actions fall line same keeps are knows lacks asked = on line asked where
+  few : length orders.orders.items ≡ length (each_of action_change (entries_of found))
+  few = are.count ∙ (keeps rules.Actions (omega arith)).labelled.few
+
+  here : (other : ℕ) → MovesFail case.report (given_in case found) (terms_in case found).asked (entries_of found) other
+      → MovesFail report (given_in case found) (terms_in case found).asked (entries_of found) other
+  here other f = subst (λ z. MovesFail z (given_in case found) (terms_in case found).asked (entries_of found) other) same f
+
+  within : (other : ℕ) → (f : MovesFail report (given_in case found) (terms_in case found).asked (entries_of found) other) → f.number ≤ length orders.orders.items
+  within other f =
+      omega (arith, few, fails_within report (given_in case found) (terms_in case found).asked (entries_of found) other (actions_chained case found keeps) f)
+
+  on : (line : Option ℕ) → AreActionsMoved report (given_in case found) shelf (terms_in case found).asked (entries_of found) (length orders.orders.items) line
+      → IsFirstFault rules.Moves case found (lower_of fall line)
+  on None asked = record { fails = inl lacks.fails; first = λ other less fault. by other less fault } where
+    by : (other : ℕ) → other < fall → Fails rules.Moves case found other → ⊥
+    by other less (inl l) = lacks.first other less l
+    by other less (inr f) =
+        kept_fails report (given_in case found) shelf (terms_in case found).asked (entries_of found) printed actions knows other (here other f).number (here other f) refl
+        (asked (here other f).number (here other f).positive (within other (here other f)))
+  on (Some line) asked = at (nat_le line fall) refl where
+    by : (other : ℕ) → other < line → other < fall → Fails rules.Moves case found other → ⊥
+    by other less low (inl l) = lacks.first other low l
+    by other less low (inr f) = asked.first other less (here other f) (within other (here other f))
+
+    at : (b : Bool) → nat_le line fall ≡ b → IsFirstFault rules.Moves case found (cond b line fall)
+    at true e = record {
+      fails = inr (subst (λ z. MovesFail z (given_in case found) (terms_in case found).asked (entries_of found) line) (sym same) asked.fails);
+      first = λ other less fault. by other less (up other less) fault;
+    } where
+      up : (other : ℕ) → other < line → other < fall
+      up other less = grind (arith, nat_tests)
+    at false e = record { fails = inl lacks.fails; first = λ other less fault. by other (up other less) less fault } where
+      up : (other : ℕ) → other < fall → other < line
+      up other less = grind (arith, nat_tests)

@@ -7,7 +7,7 @@ use Rattle.pfs_model.specs.ActionAsks.{did}
 use Rattle.pfs_check_contents.specs.declared.shelf.Shelf.{Shelf}
 use Rattle.pfs_check_moves.specs.FoundTakes.{FindsAs}
 
--- of all that an action may ask for: a give is due where what the take found has counted something, and a set here never
+-- of all that an action may ask for: a give is due where what the take found has counted something, a set never here
 abbrev pub is_due : (ℕ → Bool) → Entry → Bool
 is_due counted (says.Give row version from) = counted from
 is_due counted (says.Set word version flags) = false

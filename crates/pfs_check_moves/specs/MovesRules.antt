@@ -1,4 +1,4 @@
--- What it means that the eighth rule was asked of a report whose actions never fall along a row.
+-- What it means that the eighth rule was asked of a report.
 use Rattle.std.specs.Prelude.{ℕ, ◌≡◌, ◌-◌, ◌<◌, ◌≤◌, nat_le, Bool, cond, List, ◌++◌, length, Option, Some, None, Vec}
 use Rattle.std.specs.BTreeMap.{BTreeMap}
 use Rattle.std.specs.declared.alloc.Global.{Global}
@@ -104,6 +104,10 @@ abbrev pub lower_line : Option ℕ → Option ℕ → Option ℕ
 lower_line None other = other
 lower_line (Some one) None = Some one
 lower_line (Some one) (Some other) = Some (cond (nat_le one other) one other)
+
+abbrev pub lower_of : ℕ → Option ℕ → ℕ
+lower_of fall None = fall
+lower_of fall (Some line) = cond (nat_le line fall) line fall
 
 -- what was found before, with what the takes find and with the contents
 abbrev pub with_contents : Findings → (ℕ → ℕ → Bool) → (ℕ → ℕ → List ℕ) → Findings

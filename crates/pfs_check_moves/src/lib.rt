@@ -1,5 +1,4 @@
-//! The eighth rule of a report's judge, where the actions never fall along a row: each action changes just the rows
-//! that it asks for.
+//! The eighth rule of a report's judge: each action changes just the rows that it asks for.
 #![tactic(auto)]
 
 mod collecting;
@@ -10,7 +9,7 @@ mod finds;
 mod judging;
 mod printed;
 
-pub use judging::{MovesRule, judge_moves};
+pub use judging::{MovesRule, judge_fallen, judge_moves};
 
 /// Memory ran out.
 pub type NoMemory = std::alloc::AllocError;

@@ -1,2 +1,3 @@
 mod MadeOnce
+mod ShelfFacts
 mod WalkFacts

@@ -30,7 +30,7 @@ use Rattle.pfs_check_reached.specs.ReachedChanges.{AreOpen, AreSound, GivesFrom,
 use Rattle.pfs_check_reached.specs.declared.reached.Reached.{Reached}
 use Rattle.pfs_check_reached.proofs.MadeOnce.{same_made}
 
-head : {x y : Change} → (x ∷ []) ≡ (y ∷ []) → x ≡ y
+pub head : {x y : Change} → (x ∷ []) ≡ (y ∷ []) → x ≡ y
 head {x} {y} e = ap (λ changes. first changes x) e where
   first : List Change → Change → Change
   first [] d = d
@@ -71,7 +71,7 @@ of_entry given (x ∷ xs) (y ∷ ys) zero one z g = (x, inl refl, subst (IsChang
 of_entry given (x ∷ xs) (y ∷ ys) (suc i) one z g =
     let h : (place : Placed) × IsAmong place xs × IsChangeOf given place one = of_entry given xs ys i one z.1 g in (h.0, inr h.1, h.2)
 
-of_change : (given : Given) (xs : List Placed) (ys : List RowChange) (place : Placed) → AllZip (IsChangeOf given) xs ys → IsAmong place xs
+pub of_change : (given : Given) (xs : List Placed) (ys : List RowChange) (place : Placed) → AllZip (IsChangeOf given) xs ys → IsAmong place xs
     → (i : ℕ) × (one : RowChange) × StandsAt ys i one × IsChangeOf given place one
 of_change given [] ys place z i = absurd i
 of_change given (x ∷ xs) [] place z i = absurd z
@@ -79,7 +79,7 @@ of_change given (x ∷ xs) (y ∷ ys) place z (inl e) = (zero, y, refl, subst (�
 of_change given (x ∷ xs) (y ∷ ys) place z (inr i) =
     let h : (i : ℕ) × (one : RowChange) × StandsAt ys i one × IsChangeOf given place one = of_change given xs ys place z.1 i in (suc h.0, h.1, h.2, h.3)
 
-changing_there : (xs : List Placed) (place : Placed) (change : Change) → IsAmong place xs → row_change place.entry ≡ change ∷ [] → IsAmong place (changing xs)
+pub changing_there : (xs : List Placed) (place : Placed) (change : Change) → IsAmong place xs → row_change place.entry ≡ change ∷ [] → IsAmong place (changing xs)
 changing_there [] place change i e = absurd i
 changing_there (x ∷ xs) place change (inl q) e =
     subst (λ z. IsAmong place (cond z (x ∷ []) [] ++ changing xs)) (sym (ap (λ (z : Placed). is_changing z) q ∙ ap is_some_of e)) (inl q)

@@ -91,3 +91,10 @@ pub record IsWoken (old new : Walk) (change : Change) : Type 0 where
   pub ready : new.ready.items ≡ old.ready.items ++ waits_in old.waiting.kept change
   pub others : (other : Change) → is_that other change ≡ false
       → waits_in new.waiting.kept other ≡ waits_in old.waiting.kept other
+
+-- a change isn't made
+pub record LeavesOut (changes : List RowChange) (kept : BTreeMap Change (List ℕ)) : Type 0 where
+  pub place : ℕ
+  pub one : RowChange
+  pub there : StandsAt changes place one
+  pub untold : told_in kept one.row one.version ≡ None

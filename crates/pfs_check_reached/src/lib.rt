@@ -3,10 +3,12 @@
 
 mod reached;
 mod reaching;
+mod shelves;
 mod waiting;
 
 pub use reached::Reached;
 pub use reaching::reach;
+pub use shelves::shelf_of;
 
 /// Memory ran out.
 pub type NoMemory = std::alloc::AllocError;

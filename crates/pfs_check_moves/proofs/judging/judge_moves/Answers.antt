@@ -15,12 +15,12 @@ returns-in-None c = λ case found same blocks keeps never index are is.
       index = subst (λ z. IsIndex action_change z (entries_of found) c.args.actions.now.made) same index;
       chained = actions_chained case found keeps;
       kept = is_kept c.kept.ensures case found c.args.shelf.now is;
-      before = had_before c.before-2.ensures case found c.args.shelf.now is;
+      before = had_before case found keeps;
     } in
     let ordered : AreOrdered (terms_in case found).asked (entries_of found) c.args.orders.now.entries.entries c.as_slice.result.now =
     subst (AreOrdered (terms_in case found).asked (entries_of found) c.args.orders.now.entries.entries) (sym c.as_slice.ensures.value)
     (are_ordered case found c.args.orders.now keeps are) in
-    moves_kept c.acted.ensures c.idle.ensures c.before-2.ensures case found c.args.shelf.now c.args.orders.now c.args.report.now keeps never is are
+    moves_kept c.acted.ensures c.idle.ensures case found c.args.shelf.now c.args.orders.now c.args.report.now keeps never is are
     (subst (λ (z : List Order). AreActionsMoved c.args.report.now (given_in case found) c.args.shelf.now (terms_in case found).asked (entries_of found) (length z) None)
     c.as_slice.ensures.value
     (subst (AreActionsMoved c.args.report.now (given_in case found) c.args.shelf.now (terms_in case found).asked (entries_of found) (length c.as_slice.result.now)) c.in-None.is
@@ -33,7 +33,7 @@ returns c = λ case found same blocks keeps never index are is.
       index = subst (λ z. IsIndex action_change z (entries_of found) c.args.actions.now.made) same index;
       chained = actions_chained case found keeps;
       kept = is_kept c.kept.ensures case found c.args.shelf.now is;
-      before = had_before c.before-2.ensures case found c.args.shelf.now is;
+      before = had_before case found keeps;
     } in
     let ordered : AreOrdered (terms_in case found).asked (entries_of found) c.args.orders.now.entries.entries c.as_slice.result.now =
     subst (AreOrdered (terms_in case found).asked (entries_of found) c.args.orders.now.entries.entries) (sym c.as_slice.ensures.value)
