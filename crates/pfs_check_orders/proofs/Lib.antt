@@ -1,4 +1,5 @@
 mod InfoFacts
 mod ListRanges
 mod OrderFacts
+mod ShownFacts
 mod WrittenRows

@@ -26,6 +26,10 @@ use Rattle.pfs_runs.specs.Labels.{answer_of_label, answer_to, rooms_for, rooms_o
 use Rattle.pfs_check_blank.specs.AllAsked.{AreAsked, AreWritten, IsAsked, WholeLaw, every}
 use Rattle.pfs_check_blank.specs.ReadyStores.{IsReady}
 use Rattle.pfs_check_blank.specs.declared.blank.Blank.{Blank}
+use Rattle.pfs_check_orders.specs.HeldCopies.{AreShown, IsCurrent, StandsAt}
+use Rattle.pfs_check_orders.specs.declared.held.HeldTables.{HeldTables}
+use Rattle.pfs_check_orders.proofs.ShownFacts.{at_stays, none_shown}
+use Rattle.pfs_admin.specs.declared.changes.Change.TheVariants as changes
 use Rattle.pfs_check_orders.specs.InfoWords.{AreInfos, HasInfos, info_of}
 use Rattle.pfs_check_orders.specs.Replays.{IsReplayed}
 use Rattle.pfs_check_orders.proofs.InfoFacts.{has_infos, infos_stay, none_written}
@@ -146,10 +150,12 @@ terms_law whole setting change facts labels entries orders are before order e =
 
 -- before the first action
 pub none_replayed : (setting : Setting) (change : Label → Change) (admin : State) (blank : Blank) (kept : Orders)
-    → admin ≡ opened setting → IsReady admin.words blank → kept.entries.entries ≡ [] → kept.orders.items ≡ []
+    → admin ≡ opened setting → IsReady admin.words blank → kept.entries.entries ≡ [] → ((s : State) → IsCurrent s kept.held) → kept.orders.items ≡ []
     → IsReplayed setting change [] admin blank kept
 unfolding state_from
-none_replayed setting change admin blank kept opens ready none empty = record {
+none_replayed setting change admin blank kept opens ready none current empty = record {
+  shown = subst (λ z. AreShown setting change [] kept.held.tables.items z) (sym empty) (none_shown setting change kept.held.tables.items);
+  current = current admin;
   infos = subst (λ z. AreInfos setting change [] kept.infos.items z) (sym empty) (none_written setting change kept.infos.items);
   stands = opens;
   ready = ready;
@@ -160,40 +166,55 @@ none_replayed setting change admin blank kept opens ready none empty = record {
 
 -- and behind one more
 pub replayed_more : StepLaw → WholeLaw → (setting : Setting) (change : Label → Change) (labels : List Label) (label : Label) (session : ℕ) (what : Change)
-    (old new : State) (blank after : Blank) (kept more : Orders) (asked order : Order) → label.session ≡ session → change label ≡ what
+    (old new : State) (blank after : Blank) (kept more : Orders) (asked ranged : Order) (held : ℕ) (copies : List HeldTables)
+    → label.session ≡ session → change label ≡ what
     → IsReplayed setting change labels old blank kept → new ≡ stepped old session what → IsReady new.words after
     → IsNext old session what kept.entries.entries more.entries.entries asked
     → AreWritten (work_for old session what).signs after.contents.items
-    → order ≡ record asked { first_info = length kept.infos.items; end_info = length more.infos.items }
+    → ranged ≡ record asked { first_info = length kept.infos.items; end_info = length more.infos.items }
     → (asked.end ≤ length more.entries.entries
     → more.infos.items ≡ kept.infos.items ++ flat_map (info_of after.contents.items) (entries_in more.entries.entries asked))
-    → more.orders.items ≡ kept.orders.items ++ order ∷ []
+    → more.held.tables.items ≡ kept.held.tables.items ++ copies
+    → (what ≡ changes.Setup Show → StandsAt old more.held.tables.items held)
+    → IsCurrent (stepped old session what) more.held
+    → more.orders.items ≡ kept.orders.items ++ record ranged { held = held } ∷ []
     → IsReplayed setting change (labels ++ label ∷ []) new after more
-replayed_more law whole setting change labels label session what old new blank after kept more asked order own named replayed step ready next written ranged infos grown = record {
+replayed_more law whole setting change labels label session what old new blank after kept more asked ranged held copies own named replayed step ready next written range infos copied shows current grown = record {
   stands = step ∙ (law session what old).stands setting change labels label own named replayed.stands;
   ready = ready;
   orders =
       subst (λ z. AreOrders setting change (labels ++ label ∷ []) more.entries.entries z) (sym grown)
-      (orders_more setting change labels label old kept.entries.entries more.entries.entries kept.orders.items order replayed.stands replayed.orders
-      (subst (λ z. IsNext old z (change label) kept.entries.entries more.entries.entries order) (sym own)
-      (subst (λ z. IsNext old session z kept.entries.entries more.entries.entries order) (sym named) placed)));
+      (orders_more setting change labels label old kept.entries.entries more.entries.entries kept.orders.items (record ranged { held = held }) replayed.stands replayed.orders
+      (subst (λ z. IsNext old z (change label) kept.entries.entries more.entries.entries (record ranged { held = held })) (sym own)
+      (subst (λ z. IsNext old session z kept.entries.entries more.entries.entries (record ranged { held = held })) (sym named) placed)));
   infos =
       subst (λ z. AreInfos setting change (labels ++ label ∷ []) more.infos.items z) (sym grown) (record {
-        count = count_more labels label kept.orders.items order replayed.infos.count;
+        count = count_more labels label kept.orders.items (record ranged { held = held }) replayed.infos.count;
         each =
             each_more (λ t one other. HasInfos (work_for t one.session (change one)).signs kept.infos.items other)
             (λ t one other. HasInfos (work_for t one.session (change one)).signs more.infos.items other)
-            setting change labels label old kept.orders.items order replayed.stands replayed.infos.count
+            setting change labels label old kept.orders.items (record ranged { held = held }) replayed.stands replayed.infos.count
             (λ t one other is. subst (λ z. HasInfos (work_for t one.session (change one)).signs z other) (sym added)
             (infos_stay (work_for t one.session (change one)).signs kept.infos.items _ other is))
-            (subst (λ z. HasInfos (work_for old z (change label)).signs more.infos.items order) (sym own)
-            (subst (λ z. HasInfos (work_for old session z).signs more.infos.items order) (sym named) here))
+            (subst (λ z. HasInfos (work_for old z (change label)).signs more.infos.items (record ranged { held = held })) (sym own)
+            (subst (λ z. HasInfos (work_for old session z).signs more.infos.items (record ranged { held = held })) (sym named) here))
             replayed.infos.each;
       });
+  shown =
+      subst (λ z. AreShown setting change (labels ++ label ∷ []) more.held.tables.items z) (sym grown) (record {
+        count = count_more labels label kept.orders.items (record ranged { held = held }) replayed.shown.count;
+        each =
+            each_more (λ t one other. change one ≡ changes.Setup Show → StandsAt t kept.held.tables.items other.held)
+            (λ t one other. change one ≡ changes.Setup Show → StandsAt t more.held.tables.items other.held)
+            setting change labels label old kept.orders.items (record ranged { held = held }) replayed.stands replayed.shown.count
+            (λ t one other is e. subst (λ z. StandsAt t z other.held) (sym copied) (at_stays t kept.held.tables.items copies other.held (is e)))
+            (λ e. shows (sym named ∙ e)) replayed.shown.each;
+      });
+  current = subst (λ z. IsCurrent z more.held) (sym step) current;
 } where
-  placed : IsNext old session what kept.entries.entries more.entries.entries order
+  placed : IsNext old session what kept.entries.entries more.entries.entries (record ranged { held = held })
   placed =
-      subst (IsNext old session what kept.entries.entries more.entries.entries) (sym ranged) (record {
+      subst (λ (z : Order). IsNext old session what kept.entries.entries more.entries.entries (record z { held = held })) (sym range) (record {
         more = next.more;
         grown = next.grown;
         order_is = record {
@@ -208,11 +229,11 @@ replayed_more law whole setting change labels label session what old new blank a
   added : more.infos.items ≡ kept.infos.items ++ flat_map (info_of after.contents.items) (entries_in more.entries.entries asked)
   added = infos next.order_is.within
 
-  here : HasInfos (work_for old session what).signs more.infos.items order
+  here : HasInfos (work_for old session what).signs more.infos.items (record ranged { held = held })
   here =
-      subst (HasInfos (work_for old session what).signs more.infos.items) (sym ranged)
+      subst (λ (z : Order). HasInfos (work_for old session what).signs more.infos.items (record z { held = held })) (sym range)
       (has_infos whole (work_for old session what) old.words (entries_in more.entries.entries asked) after.contents.items kept.infos.items more.infos.items
-      (record asked { first_info = length kept.infos.items; end_info = length more.infos.items }) refl refl added next.order_is.asked
+      (record asked { first_info = length kept.infos.items; end_info = length more.infos.items; held = held }) refl refl added next.order_is.asked
       (have_words setting change labels session what old after.contents.items replayed.stands written))
 
 -- a label more of those that were passed

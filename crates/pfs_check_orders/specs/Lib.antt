@@ -1,3 +1,4 @@
 pub mod ActionOrders
+pub mod HeldCopies
 pub mod InfoWords
 pub mod Replays

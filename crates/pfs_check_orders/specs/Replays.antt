@@ -8,6 +8,7 @@ use Rattle.pfs_classes.specs.declared.setting.Setting.{Setting}
 use Rattle.pfs_check_blank.specs.declared.blank.Blank.{Blank}
 use Rattle.pfs_check_blank.specs.ReadyStores.{IsReady}
 use Rattle.pfs_check_orders.specs.ActionOrders.{AreOrders}
+use Rattle.pfs_check_orders.specs.HeldCopies.{AreShown, IsCurrent}
 use Rattle.pfs_check_orders.specs.InfoWords.{AreInfos}
 use Rattle.pfs_check_orders.specs.declared.orders.Orders.{Orders}
 
@@ -17,3 +18,5 @@ pub record IsReplayed (setting : Setting) (change : Label → Change) (labels : 
   pub ready : IsReady admin.words blank
   pub orders : AreOrders setting change labels kept.entries.entries kept.orders.items
   pub infos : AreInfos setting change labels kept.infos.items kept.orders.items
+  pub shown : AreShown setting change labels kept.held.tables.items kept.orders.items
+  pub current : IsCurrent admin kept.held

@@ -1,6 +1,7 @@
 //! What is kept of each action.
 
 use crate::infos::Info;
+use crate::shows::HeldCopies;
 use pfs_admin::{Placed, Reply};
 use pfs_containers::Lost;
 use pfs_event::Log;
@@ -16,6 +17,8 @@ pub struct Order {
     pub first_info: usize,
     /// Where they end there.
     pub end_info: usize,
+    /// Where a copy of the rows of the setup tables as they stood before it stands among the copies, if it reads them.
+    pub held: usize,
     /// The places that a connect got; none of another action.
     pub placed: Placed,
     /// What it is answered; no rows where it has no answer.
@@ -31,6 +34,8 @@ pub struct Orders {
     pub entries: Log,
     /// The info rows that they write, one action after another, each action's in the order in which it writes them.
     pub infos: Vec<Info>,
+    /// The rows of the setup tables before the actions that read them.
+    pub held: HeldCopies,
     /// By their numbers, from 1 on.
     pub orders: Vec<Order>,
 }

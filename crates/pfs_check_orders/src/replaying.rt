@@ -12,13 +12,15 @@ ghost use Rattle.pfs_runs.specs.ScriptLines.{change_in};
 ghost use Rattle.pfs_check_blank.specs.ReadyStores.{IsReady};
 ghost use Rattle.pfs_check_changes.specs.ActionNumbers.{show_if};
 ghost use Rattle.pfs_check_orders.specs.ActionOrders.{AreOrders, IsNamed};
+ghost use Rattle.pfs_check_orders.specs.HeldCopies.{AreShown};
 ghost use Rattle.pfs_check_orders.specs.InfoWords.{AreInfos};
 ghost use Rattle.pfs_check_orders.specs.Replays.{IsReplayed};
 
 use crate::NoMemory;
 use crate::asking::ask;
 use crate::infos::keep_infos;
-use crate::orders::Orders;
+use crate::orders::{Order, Orders};
+use crate::shows::HeldCopies;
 use pfs_admin::{Admin, Change, SetupStatement, opening_flags};
 use pfs_board::Label;
 use pfs_check_blank::Blank;
@@ -79,13 +81,14 @@ impl Replayed {
         let kept = Orders {
             entries: Log::new(alloc),
             infos: Vec::new(alloc),
+            held: HeldCopies::new(alloc),
             orders: Vec::new(alloc),
         };
         Ok(Replayed { admin, blank, kept })
     }
 
     // One action more. Where there are more than a number of actions counts, memory is said to have run out.
-    fn go_on(&mut self, session: u64, what: &Change) -> Result<(), NoMemory>
+    fn go_on(&mut self, alloc: Global, session: u64, what: &Change) -> Result<(), NoMemory>
         requires named { IsNamed self.old.admin.names what.now }
         requires ready { IsReady self.old.admin.words self.old.blank }
         ensures { (setting : Setting) → (change : Label → Change) → (labels : List Label) → (label : Label)
@@ -100,6 +103,7 @@ impl Replayed {
         pfs_admin::laws::one_label_more();
         pfs_check_blank::laws::asks();
         make_room(&mut self.kept.entries)?;
+        let held = self.kept.held.copy_for(alloc, &self.admin, what)?;
         let order = ask(
             &mut self.admin,
             &mut self.blank,
@@ -108,7 +112,8 @@ impl Replayed {
             what,
         )?;
         let order = keep_infos(&mut self.kept.infos, &self.blank, &self.kept.entries, order)?;
-        self.kept.orders.push(order)?;
+        self.kept.held.follow(what);
+        self.kept.orders.push(Order { held, ..order })?;
         Ok(())
     }
 }
@@ -126,6 +131,8 @@ pub fn replay(
         kept.orders.items) }
     ensures infos { IfOk result (λ kept. AreInfos setting.now (change_in phases.now) labels.now kept.infos.items
         kept.orders.items) }
+    ensures shown { IfOk result (λ kept. AreShown setting.now (change_in phases.now) labels.now kept.held.tables.items
+        kept.orders.items) }
 {
     pfs_admin::laws::names_and_cells_stay();
     let actions = list_actions(alloc, phases)?;
@@ -133,7 +140,7 @@ pub fn replay(
     for label in labels {
         let show = Change::Setup(SetupStatement::Show);
         let what = change_or(actions.change(*label), &show);
-        replay.go_on(label.session, what)?;
+        replay.go_on(alloc, label.session, what)?;
     }
     Ok(replay.kept)
 }

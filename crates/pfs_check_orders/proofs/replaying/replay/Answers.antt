@@ -3,6 +3,7 @@ use Rattle.std.proofs.lemmas.List.{take_all}
 use Rattle.pfs_board.specs.declared.view.Label.{Label}
 use Rattle.pfs_runs.specs.ScriptLines.{change_in}
 use Rattle.pfs_check_orders.specs.ActionOrders.{AreOrders}
+use Rattle.pfs_check_orders.specs.HeldCopies.{AreShown}
 use Rattle.pfs_check_orders.specs.InfoWords.{AreInfos}
 use Rattle.pfs_check_orders.specs.Replays.{IsReplayed}
 use Rattle.pfs_check_orders.proofs.OrderFacts.{labels_more, named_still}
@@ -38,3 +39,8 @@ pub returns-clause-infos : goal.returns-clause-infos
 returns-clause-infos c =
     subst (λ z. AreInfos c.args.setting.now (change_in c.args.phases.now) z c.loop-label.replay.kept.infos.items c.loop-label.replay.kept.orders.items)
     (take_all c.loop-label.label-index c.args.labels.now c.loop-label-test.false) c.loop-label.invariant.infos
+
+pub returns-clause-shown : goal.returns-clause-shown
+returns-clause-shown c =
+    subst (λ z. AreShown c.args.setting.now (change_in c.args.phases.now) z c.loop-label.replay.kept.held.tables.items c.loop-label.replay.kept.orders.items)
+    (take_all c.loop-label.label-index c.args.labels.now c.loop-label-test.false) c.loop-label.invariant.shown

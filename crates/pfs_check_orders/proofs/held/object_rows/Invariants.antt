@@ -1,0 +1,7 @@
+use Rattle.std.proofs.Common.{◌≡◌, map, take}
+use Rattle.pfs_setups.specs.HeldRows.{object_values}
+use Rattle.pfs_check_orders.proofs.held.object_rows.Given as goal
+
+-- the rows that were passed
+abbrev pub invariant-loop-place : goal.invariant-loop-place
+invariant-loop-place l = l.rows ≡ map object_values (take l.place l.objects)
