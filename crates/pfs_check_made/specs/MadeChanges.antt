@@ -4,6 +4,7 @@ use Rattle.std.specs.BTreeMap.{get}
 use Rattle.pfs_event.specs.declared.entry.Entry.{Entry}
 use Rattle.pfs_event.specs.declared.entry.Entry.TheVariants as says
 use Rattle.pfs_model.specs.declared.changes.Change.{Change}
+use Rattle.pfs_model.specs.declared.lines.Opened.{Opened}
 use Rattle.pfs_model.specs.Chains.{row_change}
 use Rattle.pfs_model.specs.Contents.{Given, event_at, written_at}
 use Rattle.pfs_model.specs.Contexts.{first_of}
@@ -37,6 +38,10 @@ pub record IsAt (place : Placed) (here : Here) : Type 0 where
   pub action : place.context.action ≡ here.action
   pub drawn : place.context.drawn ≡ here.drawn
   pub innermost : first_of place.context.opened ≡ here.innermost
+
+-- the event that has just ended, at an entry with which no line begins
+abbrev pub IsEndedAt : Placed → Option Opened → Type 0
+IsEndedAt place ended = is_head place.entry ≡ false → ended ≡ place.context.ended
 
 -- a put writes an event, in words of 64 bits
 pub record IsPutKnown (given : Given) (place : Placed) (ticket : Option ℕ) : Type 0 where

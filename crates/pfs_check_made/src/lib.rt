@@ -4,7 +4,7 @@
 mod making;
 mod tags;
 
-pub use making::{Here, Made, made_of};
+pub use making::{Here, Made, made_of, note_held};
 pub use tags::{TagAt, TagWords};
 
 /// Memory ran out.

@@ -1,15 +1,16 @@
 //! The change that an entry makes.
 
-ghost use Rattle.std.specs.Prelude.{◌≡◌, Option, List};
+ghost use Rattle.std.specs.Prelude.{◌≡◌, ◌∷◌, Option, List, OnOk};
 ghost use Rattle.pfs_check_amounts.specs.EventTerms.{GivesEvents};
 ghost use Rattle.pfs_check_contents.specs.HeldEvents.{AreHeld, own_amount};
 ghost use Rattle.pfs_check_notes.specs.SessionNotes.{AreNotesOf};
 ghost use Rattle.pfs_model.specs.Contents.{Given};
 ghost use Rattle.pfs_model.specs.EntryPlaces.{Placed};
 ghost use Rattle.pfs_model.specs.declared.changes.Change.{Change};
-ghost use Rattle.pfs_check_made.specs.MadeChanges.{IsAt, IsMadeTold, IsPutTold, changed_to, put_to};
+ghost use Rattle.pfs_check_made.specs.MadeChanges.{IsAt, IsEndedAt, IsMadeTold, IsPutTold, changed_to, put_to};
 ghost use Rattle.pfs_check_made.specs.TagWords.{GivesTags};
 
+use crate::NoMemory;
 use crate::tags::{TagAt, TagWords};
 use pfs_check_amounts::EventTerms;
 use pfs_check_contents::{Effect, HeldAmounts, RowChange};
@@ -45,6 +46,28 @@ fn own_amount(terms: &EventTerms, session: u64, ended: Option<Opened>) -> Option
     match ended {
         Some(event) => Some(terms.amount(session, &event)),
         None => None,
+    }
+}
+
+/// One entry more of what sessions hold for rows, where this event has just ended, if one has. Err where memory runs
+/// out.
+pub fn note_held(
+    held: &mut HeldAmounts,
+    terms: &EventTerms,
+    session: u64,
+    ended: Option<Opened>,
+    entry: &Entry,
+) -> Result<(), NoMemory>
+    ensures { (given : Given) → (earlier : List Placed) → (place : Placed) → GivesEvents given terms.now
+        → place.session ≡ session → place.entry ≡ entry.now → IsEndedAt place ended
+        → AreHeld given earlier held.old → OnOk result (AreHeld given (place ∷ earlier) held.new) }
+{
+    match entry {
+        Entry::Held { .. } | Entry::Add { .. } => {
+            let own = own_amount(terms, session, ended);
+            held.note(session, entry, own)
+        }
+        _ => Ok(()),
     }
 }
 
