@@ -6,6 +6,7 @@ mod HeldAnswers
 mod LineSteps
 mod Misreads
 mod PartEntries
+pub mod PartShapes
 mod ReadPrefixes
 mod RowDifferences
 mod SelectSteps
