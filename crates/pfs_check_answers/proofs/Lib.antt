@@ -5,6 +5,7 @@ mod FreeWords
 mod HeldAnswers
 mod LineSteps
 mod Misreads
+pub mod NamedVersions
 mod PartEntries
 pub mod PartShapes
 mod ReadPrefixes

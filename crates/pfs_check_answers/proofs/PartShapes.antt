@@ -9,7 +9,7 @@ use Rattle.pfs_event.specs.declared.entry.Entry.TheVariants as says
 use Rattle.pfs_journal.specs.Spelling.{is_answered}
 use Rattle.pfs_model.specs.Contexts.{Context}
 use Rattle.pfs_model.specs.Cuts.{behind, cut, step, then_cut}
-use Rattle.pfs_model.specs.EntryAsks.{fits, is_reading}
+use Rattle.pfs_model.specs.EntryAsks.{fits}
 use Rattle.pfs_model.specs.Shapes.{added, changes, many, one, settling, shape}
 use Rattle.pfs_model.specs.declared.lines.Line.TheVariants as lines
 use Rattle.pfs_model.specs.declared.shapes.Ask.{Ask}
