@@ -5,7 +5,9 @@ mod FreeWords
 mod HeldAnswers
 mod LineSteps
 mod Misreads
+pub mod NamedVersions
 mod PartEntries
+pub mod PartShapes
 mod ReadPrefixes
 mod RowDifferences
 mod SelectSteps

@@ -6,7 +6,8 @@ ghost use Rattle.pfs_event.specs.declared.entry.Entry.{Entry};
 ghost use Rattle.pfs_model.specs.EntryPlaces.{Placed};
 ghost use Rattle.pfs_runs.specs.SelectAnswers.{IsAnswered, Selection};
 ghost use Rattle.pfs_check_answers.specs.AnswerJudgements.{IsJudged};
-ghost use Rattle.pfs_check_answers.specs.BlockSelects.{AreAsked, IsAsked, IsBehind, IsStep, asked_selection, selection_by, selection_of};
+ghost use Rattle.pfs_check_answers.specs.BlockSelects.{AreAsked, IsAsked, IsBehind, IsStep};
+ghost use Rattle.pfs_check_answers.specs.BlockSelects.{asked_selection, selection_by, selection_of};
 
 use crate::NoMemory;
 use crate::answered::Answered;
