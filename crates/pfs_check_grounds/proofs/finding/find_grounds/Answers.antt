@@ -66,7 +66,7 @@ returns-in_err-ask_setup c = λ case setting phases report.
     subst (λ z. AreOrders z (change_in case.phases) labels c.in_ok-replayed.replayed.entries.entries c.in_ok-replayed.replayed.orders.items) (sym setting)
     (subst (λ z. AreOrders c.args.setting.now (change_in z) labels c.in_ok-replayed.replayed.entries.entries c.in_ok-replayed.replayed.orders.items) (sym phases)
     (subst (λ (z : List Label). AreOrders c.args.setting.now (change_in c.args.phases.now) z c.in_ok-replayed.replayed.entries.entries c.in_ok-replayed.replayed.orders.items)
-    c.as_slice.ensures.value c.in_ok-replayed.ensures)) in
+    c.as_slice.ensures.value c.in_ok-replayed.ensures.orders)) in
     let index : (counted : ℕ → ℕ → Bool) (content : ℕ → ℕ → List ℕ) → IsIndex action_change case.report (entries_of (found_with case cuts labels counted content)) c.in_ok-found.found.actions.made =
     λ counted content. (acted counted content).1 in
     let found = found_before case cuts labels in
@@ -94,7 +94,7 @@ returns-in_err-ask_seen c = λ case setting phases report.
     subst (λ z. AreOrders z (change_in case.phases) labels c.in_ok-replayed.replayed.entries.entries c.in_ok-replayed.replayed.orders.items) (sym setting)
     (subst (λ z. AreOrders c.args.setting.now (change_in z) labels c.in_ok-replayed.replayed.entries.entries c.in_ok-replayed.replayed.orders.items) (sym phases)
     (subst (λ (z : List Label). AreOrders c.args.setting.now (change_in c.args.phases.now) z c.in_ok-replayed.replayed.entries.entries c.in_ok-replayed.replayed.orders.items)
-    c.as_slice.ensures.value c.in_ok-replayed.ensures)) in
+    c.as_slice.ensures.value c.in_ok-replayed.ensures.orders)) in
     let index : (counted : ℕ → ℕ → Bool) (content : ℕ → ℕ → List ℕ) → IsIndex action_change case.report (entries_of (found_with case cuts labels counted content)) c.in_ok-found.found.actions.made =
     λ counted content. (acted counted content).1 in
     let k5 : KeptUpTo rules.Seen case cuts labels = step_kept next rules.Setup rules.Seen refl case cuts labels k4
@@ -124,7 +124,7 @@ returns-in_err-ask_verdicts c = λ case setting phases report.
     subst (λ z. AreOrders z (change_in case.phases) labels c.in_ok-replayed.replayed.entries.entries c.in_ok-replayed.replayed.orders.items) (sym setting)
     (subst (λ z. AreOrders c.args.setting.now (change_in z) labels c.in_ok-replayed.replayed.entries.entries c.in_ok-replayed.replayed.orders.items) (sym phases)
     (subst (λ (z : List Label). AreOrders c.args.setting.now (change_in c.args.phases.now) z c.in_ok-replayed.replayed.entries.entries c.in_ok-replayed.replayed.orders.items)
-    c.as_slice.ensures.value c.in_ok-replayed.ensures)) in
+    c.as_slice.ensures.value c.in_ok-replayed.ensures.orders)) in
     let index : (counted : ℕ → ℕ → Bool) (content : ℕ → ℕ → List ℕ) → IsIndex action_change case.report (entries_of (found_with case cuts labels counted content)) c.in_ok-found.found.actions.made =
     λ counted content. (acted counted content).1 in
     let k5 : KeptUpTo rules.Seen case cuts labels = step_kept next rules.Setup rules.Seen refl case cuts labels k4
@@ -156,7 +156,7 @@ returns-in_err-orders c = λ case setting phases report.
     subst (λ z. AreOrders z (change_in case.phases) labels c.in_ok-replayed.replayed.entries.entries c.in_ok-replayed.replayed.orders.items) (sym setting)
     (subst (λ z. AreOrders c.args.setting.now (change_in z) labels c.in_ok-replayed.replayed.entries.entries c.in_ok-replayed.replayed.orders.items) (sym phases)
     (subst (λ (z : List Label). AreOrders c.args.setting.now (change_in c.args.phases.now) z c.in_ok-replayed.replayed.entries.entries c.in_ok-replayed.replayed.orders.items)
-    c.as_slice.ensures.value c.in_ok-replayed.ensures)) in
+    c.as_slice.ensures.value c.in_ok-replayed.ensures.orders)) in
     let index : (counted : ℕ → ℕ → Bool) (content : ℕ → ℕ → List ℕ) → IsIndex action_change case.report (entries_of (found_with case cuts labels counted content)) c.in_ok-found.found.actions.made =
     λ counted content. (acted counted content).1 in
     let k5 : KeptUpTo rules.Seen case cuts labels = step_kept next rules.Setup rules.Seen refl case cuts labels k4
@@ -190,7 +190,7 @@ returns c = λ case setting phases report.
     subst (λ z. AreOrders z (change_in case.phases) labels c.in_ok-replayed.replayed.entries.entries c.in_ok-replayed.replayed.orders.items) (sym setting)
     (subst (λ z. AreOrders c.args.setting.now (change_in z) labels c.in_ok-replayed.replayed.entries.entries c.in_ok-replayed.replayed.orders.items) (sym phases)
     (subst (λ (z : List Label). AreOrders c.args.setting.now (change_in c.args.phases.now) z c.in_ok-replayed.replayed.entries.entries c.in_ok-replayed.replayed.orders.items)
-    c.as_slice.ensures.value c.in_ok-replayed.ensures)) in
+    c.as_slice.ensures.value c.in_ok-replayed.ensures.orders)) in
     let index : (counted : ℕ → ℕ → Bool) (content : ℕ → ℕ → List ℕ) → IsIndex action_change case.report (entries_of (found_with case cuts labels counted content)) c.in_ok-found.found.actions.made =
     λ counted content. (acted counted content).1 in
     let k5 : KeptUpTo rules.Seen case cuts labels = step_kept next rules.Setup rules.Seen refl case cuts labels k4
