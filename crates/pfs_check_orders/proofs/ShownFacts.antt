@@ -1,8 +1,7 @@
 -- Copies of the rows of the setup tables.
-use Rattle.std.proofs.Common.{◌≡◌, refl, ℕ, zero, suc, ◌+◌, ◌-◌, ◌<◌, ◌≤◌, Bool, false, List, [], ◌∷◌, ◌++◌, get_or, length, map, take, sym, ◌∙◌, ap, subst, arith, Some, None}
+use Rattle.std.proofs.Common.{◌≡◌, refl, ℕ, zero, suc, ◌+◌, ◌-◌, Bool, false, List, [], ◌∷◌, ◌++◌, length, map, take, sym, ◌∙◌, ap, subst, arith, Some}
 use Rattle.std.specs.Prelude.{slice_get, IfOk, Result}
 use Rattle.std.proofs.lemmas.List.{length-append}
-use Rattle.std.proofs.lemmas.Option.{same_Some}
 use Rattle.pfs_admin.specs.AdministrationStates.{State}
 use Rattle.pfs_admin.specs.Fold.{stepped}
 use Rattle.pfs_admin.specs.declared.changes.Change.{Change}
@@ -12,11 +11,9 @@ use Rattle.pfs_setups.specs.HeldRows.{actor_values, held_rows, object_values}
 use Rattle.pfs_exec.specs.Selections.{IsAnswer}
 use Rattle.pfs_exec.specs.declared.query.Select.{Select}
 use Rattle.pfs_rows.specs.declared.table.Table.TheVariants.{SetupActors, SetupObjects}
-use Rattle.pfs_runs.specs.Labels.{before_action, label_at}
 use Rattle.pfs_runs.specs.SelectAnswers.{AnswersHeld}
-use Rattle.pfs_check_orders.specs.declared.orders.Order.{Order}
 use Rattle.pfs_text.specs.declared.values.RowValue.{RowValue}
-use Rattle.pfs_check_orders.specs.HeldCopies.{AreHeld, AreShown, IsCurrent, IsRead, IsSame, StandsAt}
+use Rattle.pfs_check_orders.specs.HeldCopies.{AreHeld, AreShown, IsCurrent, IsSame, StandsAt}
 use Rattle.pfs_check_orders.specs.declared.held.HeldTables.{HeldTables}
 use Rattle.pfs_check_orders.specs.declared.shows.HeldCopies.{HeldCopies}
 
@@ -91,55 +88,3 @@ pub over_objects : {E : Type 0} (query : Select) (s : State) (tables : HeldTable
     → AreHeld s tables → IfOk result (IsAnswer query tables.objects) → IfOk result (AnswersHeld query s.actors s.objects)
 over_objects query s tables result e held h =
     subst (λ z. IfOk result (IsAnswer query z)) (held.objects ∙ sym (ap (λ t. held_rows t s.actors s.objects) e)) h
-
--- the copy that stands at a place is the one that is read there
-pub held_there : (s : State) (copies : List HeldTables) (place : ℕ) (tables : HeldTables) → StandsAt s copies place → slice_get copies place ≡ Some tables → AreHeld s tables
-held_there s copies place tables stands e = subst (AreHeld s) (same_Some stands.tables tables (sym stands.there ∙ e)) stands.held
-
-pub get_item : (copies : List HeldTables) (place : ℕ) (tables : HeldTables) → place < length copies → tables ≡ get_or copies place tables
-    → slice_get copies place ≡ Some tables
-get_item [] place tables l e = absurd (omega (arith, l))
-get_item (x ∷ copies) zero tables l e = ap Some (sym e)
-get_item (x ∷ copies) (suc place) tables l e = get_item copies place tables (omega (arith, l)) e
-
-pub not_there : (s : State) (copies : List HeldTables) (place : ℕ) → StandsAt s copies place → length copies ≤ place → ⊥
-not_there s copies place stands over = at copies place stands.there over where
-  at : (xs : List HeldTables) (n : ℕ) → slice_get xs n ≡ Some stands.tables → length xs ≤ n → ⊥
-  at [] zero e l = absurd (cc)
-  at [] (suc n) e l = absurd (cc)
-  at (x ∷ xs) zero e l = omega (arith, l)
-  at (x ∷ xs) (suc n) e l = at xs n e (omega (arith, l))
-
--- the copy of an action that reads
-pub shown_at : (setting : Setting) (change : Label → Change) (labels : List Label) (copies : List HeldTables) (orders all : List Order) (number : ℕ) (order : Order)
-    → AreShown setting change labels copies orders → IsRead change labels number → all ≡ orders → Some order ≡ slice_get all (number - 1)
-    → StandsAt (before_action setting change labels number) copies order.held
-shown_at setting change labels copies orders all number order are read alike e = by number read.there refl where
-  here : slice_get orders (number - 1) ≡ Some order
-  here = sym (e ∙ ap (λ z. slice_get z (number - 1)) alike)
-
-  by : (n : ℕ) → label_at labels n ≡ Some read.label → n ≡ number → StandsAt (before_action setting change labels number) copies order.held
-  by zero l same = absurd (cc)
-  by (suc before) l same =
-      let last : number - 1 ≡ before = omega (arith, same) in
-      are.each (number - 1) read.label order (ap (slice_get labels) last ∙ l) here read.reads
-
--- and there is one
-pub shown_some : (setting : Setting) (change : Label → Change) (labels : List Label) (copies : List HeldTables) (orders all : List Order) (number : ℕ)
-    → AreShown setting change labels copies orders → IsRead change labels number → all ≡ orders → None ≡ slice_get all (number - 1) → ⊥
-shown_some setting change labels copies orders all number are read alike e = by number read.there refl where
-  here : slice_get orders (number - 1) ≡ None
-  here = sym (e ∙ ap (λ z. slice_get z (number - 1)) alike)
-
-  some : {A B : Type 0} (xs : List A) (ys : List B) (at : ℕ) (x : A) → length ys ≡ length xs → slice_get xs at ≡ Some x → slice_get ys at ≡ None → ⊥
-  some [] ys zero x h e f = absurd (cc)
-  some [] ys (suc at) x h e f = absurd (cc)
-  some (x ∷ xs) [] at z h e f = absurd (omega (arith, h))
-  some (x ∷ xs) (y ∷ ys) zero z h e f = absurd (cc)
-  some (x ∷ xs) (y ∷ ys) (suc at) z h e f = some xs ys at z (omega (arith, h)) e f
-
-  by : (n : ℕ) → label_at labels n ≡ Some read.label → n ≡ number → ⊥
-  by zero l same = absurd (cc)
-  by (suc before) l same =
-      let last : number - 1 ≡ before = omega (arith, same) in
-      some labels orders (number - 1) read.label are.count (ap (slice_get labels) last ∙ l) here
