@@ -1,14 +1,17 @@
 -- Copies of the rows of the setup tables.
-use Rattle.std.proofs.Common.{◌≡◌, refl, ℕ, zero, suc, ◌+◌, ◌-◌, ◌<◌, Bool, true, false, List, [], ◌∷◌, ◌++◌, length, map, take, sym, ◌∙◌, ap, subst, arith, Option, Some, None}
-use Rattle.std.specs.Prelude.{slice_get}
+use Rattle.std.proofs.Common.{◌≡◌, refl, ℕ, zero, suc, ◌+◌, ◌-◌, Bool, false, List, [], ◌∷◌, ◌++◌, length, map, take, sym, ◌∙◌, ap, subst, arith, Some}
+use Rattle.std.specs.Prelude.{slice_get, IfOk, Result}
 use Rattle.std.proofs.lemmas.List.{length-append}
-use Rattle.std.proofs.lemmas.Option.{same_Some}
 use Rattle.pfs_admin.specs.AdministrationStates.{State}
 use Rattle.pfs_admin.specs.Fold.{stepped}
 use Rattle.pfs_admin.specs.declared.changes.Change.{Change}
 use Rattle.pfs_board.specs.declared.view.Label.{Label}
 use Rattle.pfs_classes.specs.declared.setting.Setting.{Setting}
-use Rattle.pfs_setups.specs.HeldRows.{actor_values, object_values}
+use Rattle.pfs_setups.specs.HeldRows.{actor_values, held_rows, object_values}
+use Rattle.pfs_exec.specs.Selections.{IsAnswer}
+use Rattle.pfs_exec.specs.declared.query.Select.{Select}
+use Rattle.pfs_rows.specs.declared.table.Table.TheVariants.{SetupActors, SetupObjects}
+use Rattle.pfs_runs.specs.SelectAnswers.{AnswersHeld}
 use Rattle.pfs_text.specs.declared.values.RowValue.{RowValue}
 use Rattle.pfs_check_orders.specs.HeldCopies.{AreHeld, AreShown, IsCurrent, IsSame, StandsAt}
 use Rattle.pfs_check_orders.specs.declared.held.HeldTables.{HeldTables}
@@ -74,3 +77,14 @@ pub rows_more : {X : Type 0} (make : X → List RowValue) (xs : List X) (k : ℕ
 rows_more make xs k x row old new there is push before =
     let next : suc k ≡ k + 1 = omega arith in
     push ∙ (ap (λ z. z ++ row ∷ []) before ∙ (ap (λ z. map make (take k xs) ++ z ∷ []) is ∙ (sym (one_more make xs k x there) ∙ ap (λ n. map make (take n xs)) next)))
+
+-- what is answered over a copy
+pub over_actors : {E : Type 0} (query : Select) (s : State) (tables : HeldTables) (result : Result (List (List RowValue)) E) → query.table ≡ SetupActors
+    → AreHeld s tables → IfOk result (IsAnswer query tables.actors) → IfOk result (AnswersHeld query s.actors s.objects)
+over_actors query s tables result e held h =
+    subst (λ z. IfOk result (IsAnswer query z)) (held.actors ∙ sym (ap (λ t. held_rows t s.actors s.objects) e)) h
+
+pub over_objects : {E : Type 0} (query : Select) (s : State) (tables : HeldTables) (result : Result (List (List RowValue)) E) → query.table ≡ SetupObjects
+    → AreHeld s tables → IfOk result (IsAnswer query tables.objects) → IfOk result (AnswersHeld query s.actors s.objects)
+over_objects query s tables result e held h =
+    subst (λ z. IfOk result (IsAnswer query z)) (held.objects ∙ sym (ap (λ t. held_rows t s.actors s.objects) e)) h

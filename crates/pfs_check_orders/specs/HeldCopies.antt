@@ -7,6 +7,7 @@ use Rattle.pfs_admin.specs.declared.changes.Change.TheVariants as changes
 use Rattle.pfs_admin.specs.declared.changes.SetupStatement.TheVariants as statements
 use Rattle.pfs_board.specs.declared.view.Label.{Label}
 use Rattle.pfs_classes.specs.declared.setting.Setting.{Setting}
+use Rattle.pfs_runs.specs.Labels.{label_at}
 use Rattle.pfs_setups.specs.HeldRows.{actor_values, object_values}
 use Rattle.pfs_check_orders.specs.declared.held.HeldTables.{HeldTables}
 use Rattle.pfs_check_orders.specs.declared.orders.Order.{Order}
@@ -39,3 +40,9 @@ pub record AreShown (setting : Setting) (change : Label → Change) (labels : Li
   pub each : (before : ℕ) (label : Label) (order : Order) → slice_get labels before ≡ Some label
       → slice_get orders before ≡ Some order → change label ≡ changes.Setup statements.Show
       → StandsAt (state_of setting change (take before labels)) copies order.held
+
+-- the action of a number reads the rows
+pub record IsRead (change : Label → Change) (labels : List Label) (number : ℕ) : Type 0 where
+  pub label : Label
+  pub there : label_at labels number ≡ Some label
+  pub reads : change label ≡ changes.Setup statements.Show

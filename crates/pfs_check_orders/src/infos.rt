@@ -93,7 +93,8 @@ fn first_words(infos: &[Info], order: Order, row: u64) -> Option<Content>
     None
 }
 
-fn order_before(orders: &[Order], before: u64) -> Option<Order>
+/// The order of the action behind so many others.
+pub(crate) fn order_before(orders: &[Order], before: u64) -> Option<Order>
     ensures { result ≡ slice_get orders.now before }
 {
     orders.get(before as usize).copied()

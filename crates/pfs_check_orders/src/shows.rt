@@ -5,12 +5,23 @@ ghost use Rattle.pfs_admin.specs.AdministrationStates.{State};
 ghost use Rattle.pfs_admin.specs.Fold.{stepped};
 ghost use Rattle.pfs_admin.specs.declared.changes.Change.TheVariants as changes;
 ghost use Rattle.pfs_admin.specs.declared.changes.SetupStatement.TheVariants as statements;
-ghost use Rattle.pfs_check_orders.specs.HeldCopies.{IsCurrent, IsSame, StandsAt};
+ghost use Rattle.pfs_admin.specs.declared.changes.Change.{Change};
+ghost use Rattle.pfs_board.specs.declared.view.Label.{Label};
+ghost use Rattle.pfs_classes.specs.declared.setting.Setting.{Setting};
+ghost use Rattle.pfs_runs.specs.Labels.{before_action};
+ghost use Rattle.pfs_runs.specs.SelectAnswers.{AnswersHeld};
+ghost use Rattle.pfs_setups.specs.HeldRows.{IsHeld};
+ghost use Rattle.pfs_check_orders.specs.HeldCopies.{AreHeld, AreShown, IsCurrent, IsRead, IsSame, StandsAt};
 ghost use Rattle.pfs_check_orders.specs.declared.held.HeldTables.{HeldTables};
 
 use crate::NoMemory;
 use crate::held::{HeldTables, copy_tables};
+use crate::infos::order_before;
+use crate::orders::Orders;
 use pfs_admin::{Admin, Change, SetupStatement};
+use pfs_exec::{Select, select};
+use pfs_rows::Table;
+use pfs_text::Rowset;
 use std::alloc::Global;
 
 /// Copies of the rows of the setup tables, one for all actions that read them as they stand there.
@@ -95,5 +106,51 @@ impl HeldCopies {
         if may_change(what) {
             self.current = false;
         }
+    }
+}
+
+// What a SELECT on one of the setup tables answers over a copy of their rows.
+fn answer_of(alloc: Global, tables: &HeldTables, query: &Select) -> Result<Rowset, NoMemory>
+    requires held { IsHeld query.now.table }
+    ensures { (s : State) → AreHeld s tables.now → IfOk result (AnswersHeld query.now s.actors s.objects) }
+{
+    match query.table {
+        Table::SetupActors => select(alloc, query, &tables.actors),
+        Table::SetupObjects => select(alloc, query, &tables.objects),
+        _ => unreachable!(),
+    }
+}
+
+// The same over the copy at a place; no rows where there is none.
+fn answer_at(
+    alloc: Global,
+    copies: &[HeldTables],
+    place: usize,
+    query: &Select,
+) -> Result<Rowset, NoMemory>
+    requires held { IsHeld query.now.table }
+    ensures { (s : State) → StandsAt s copies.now place → IfOk result (AnswersHeld query.now s.actors s.objects) }
+{
+    if place >= copies.len() {
+        return Ok(Rowset::new(Vec::new(alloc)));
+    }
+    answer_of(alloc, &copies[place], query)
+}
+
+impl Orders {
+    /// What a SELECT on `setup_actors` or `setup_objects` answers that is the action of a number, counted from 1: over
+    /// the rows as the administration holds them before it. Err where memory runs out.
+    pub fn answer(&self, alloc: Global, number: u64, query: &Select) -> Result<Rowset, NoMemory>
+        requires held { IsHeld query.now.table }
+        ensures { (setting : Setting) → (change : Label → Change) → (labels : List Label)
+            → AreShown setting change labels self.now.held.tables.items self.now.orders.items
+            → IsRead change labels number → IfOk result (AnswersHeld query.now
+            (before_action setting change labels number).actors (before_action setting change labels number).objects) }
+    {
+        let place = match order_before(self.orders.as_slice(), number.saturating_sub(1)) {
+            Some(order) => order.held,
+            None => 0,
+        };
+        answer_at(alloc, self.held.tables.as_slice(), place, query)
     }
 }
