@@ -1,6 +1,5 @@
 -- The changes that entries make, and which of them can be known.
 use Rattle.std.specs.Prelude.{ℕ, ◌≡◌, ◌≢◌, false, List, [], Option, Some, None}
-use Rattle.std.specs.BTreeMap.{get}
 use Rattle.pfs_event.specs.declared.entry.Entry.{Entry}
 use Rattle.pfs_event.specs.declared.entry.Entry.TheVariants as says
 use Rattle.pfs_model.specs.declared.changes.Change.{Change}
@@ -21,8 +20,6 @@ use Rattle.pfs_check_notes.specs.declared.notes.SessionNotes.{SessionNotes}
 use Rattle.pfs_check_made.specs.declared.making.Here.{Here}
 use Rattle.pfs_check_made.specs.declared.making.Made.{Made}
 use Rattle.pfs_check_made.specs.declared.making.Made.TheVariants.{Nothing, Changed, Unknown}
-use Rattle.pfs_check_made.specs.declared.tags.TagWords.{TagWords}
-use Rattle.pfs_check_made.specs.TagWords.{tag_at, tag_cmp}
 
 abbrev pub changed_to : ℕ → ℕ → ℕ → Effect → Made
 changed_to row version action effect =
@@ -52,19 +49,19 @@ abbrev pub IsPutTold : Given → Placed → Option ℕ → Option (List ℕ) →
 IsPutTold given place ticket None = IsPutKnown given place ticket → ⊥
 IsPutTold given place ticket (Some words) = words ≡ event_at given place place.context ticket
 
--- What an entry makes can be known: a gift is of its action's last take, the words of a tag are kept, and a put writes
+-- What an entry makes can be known: a gift is of its action's last take, a tag has words, and a put writes
 -- an event.
-abbrev pub IsKnownIn : Given → TagWords → Placed → Entry → Type 0
-IsKnownIn given tags place (says.Give row version from) = place.context.source ≡ Some from
-IsKnownIn given tags place (says.Tag row version) = get tag_cmp tags.kept (tag_at place.context.action row) ≢ None
-IsKnownIn given tags place (says.Ring row version) = IsPutKnown given place None
-IsKnownIn given tags place (says.Long row version ticket) = IsPutKnown given place (Some ticket)
-IsKnownIn given tags place _ = Unit {0}
+abbrev pub IsKnownIn : Given → Placed → Entry → Type 0
+IsKnownIn given place (says.Give row version from) = place.context.source ≡ Some from
+IsKnownIn given place (says.Tag row version) = given.info_words place.context.action row ≢ []
+IsKnownIn given place (says.Ring row version) = IsPutKnown given place None
+IsKnownIn given place (says.Long row version ticket) = IsPutKnown given place (Some ticket)
+IsKnownIn given place _ = Unit {0}
 
-abbrev pub IsMade : Given → TagWords → Placed → Made → Type 0
-IsMade given tags place Nothing = row_change place.entry ≡ []
-IsMade given tags place (Changed one) = IsChangeOf given place one
-IsMade given tags place Unknown = IsKnownIn given tags place place.entry → ⊥
+abbrev pub IsMade : Given → Placed → Made → Type 0
+IsMade given place Nothing = row_change place.entry ≡ []
+IsMade given place (Changed one) = IsChangeOf given place one
+IsMade given place Unknown = IsKnownIn given place place.entry → ⊥
 
 -- what is known of an entry with which no line begins
 pub record IsNotedAt (earlier : List Placed) (place : Placed) (notes : SessionNotes) : Type 0 where
@@ -73,5 +70,5 @@ pub record IsNotedAt (earlier : List Placed) (place : Placed) (notes : SessionNo
   pub source : source_of place.context ≡ in_action place.context.action taken
   pub waiting : place.context.waiting ≡ waiting_in earlier place.session
 
-abbrev pub IsMadeTold : Given → TagWords → List Placed → Placed → SessionNotes → Made → Type 0
-IsMadeTold given tags earlier place notes made = IsNotedAt earlier place notes → IsMade given tags place made
+abbrev pub IsMadeTold : Given → List Placed → Placed → SessionNotes → Made → Type 0
+IsMadeTold given earlier place notes made = IsNotedAt earlier place notes → IsMade given place made

@@ -1,5 +1,5 @@
 -- What is kept of the words that actions write to info rows.
-use Rattle.std.specs.Prelude.{ℕ, ◌≡◌, ◌==◌, ◌&&◌, Bool, List, Some}
+use Rattle.std.specs.Prelude.{ℕ, ◌≡◌, ◌==◌, ◌&&◌, Bool, List, [], Option, Some, None}
 use Rattle.std.specs.BTreeMap.{get}
 use Rattle.std.specs.declared.cmp.Ordering.{Ordering}
 use Rattle.std.specs.Ordering.{nat_cmp, ordering_then}
@@ -16,7 +16,11 @@ is_same_tag one at = (one.action == at.action) && (one.row == at.row)
 abbrev pub tag_at : ℕ → ℕ → TagAt
 tag_at action row = record { action = action; row = row }
 
--- what is kept is given
+-- the words that are kept of an action and a row; none where it writes none
+abbrev pub IsTagTold : List ℕ → Option (List ℕ) → Type 0
+IsTagTold words None = words ≡ []
+IsTagTold words (Some told) = told ≡ words
+
 abbrev pub GivesTags : Given → TagWords → Type 0
-GivesTags given tags = (action row : ℕ) (words : List ℕ) → get tag_cmp tags.kept (tag_at action row) ≡ Some words
-    → words ≡ given.info_words action row
+GivesTags given tags = (action row : ℕ)
+    → IsTagTold (given.info_words action row) (get tag_cmp tags.kept (tag_at action row))

@@ -119,7 +119,7 @@ pub fn made_of(
 ) -> Made
     ensures { (given : Given) → (earlier : List Placed) → (place : Placed) → GivesEvents given terms.now
         → GivesTags given tags.now → AreHeld given earlier held.now → IsAt place here → place.entry ≡ entry.now
-        → IsMadeTold given tags.now earlier place notes.now result }
+        → IsMadeTold given earlier place notes.now result }
 {
     pfs_check_contents::laws::added();
     match *entry {

@@ -1,10 +1,9 @@
 //! The words that actions write to info rows.
 
-ghost use Rattle.std.specs.Prelude.{◌≡◌, cond, Some, OnOk};
+ghost use Rattle.std.specs.Prelude.{◌≡◌, cond, Some, None, OnOk};
 ghost use Rattle.std.specs.BTreeMap.{get};
-ghost use Rattle.pfs_model.specs.Contents.{Given};
 ghost use Rattle.pfs_check_made.specs.declared.tags.TagAt.{TagAt};
-ghost use Rattle.pfs_check_made.specs.TagWords.{GivesTags, is_same_tag, tag_cmp};
+ghost use Rattle.pfs_check_made.specs.TagWords.{is_same_tag, tag_cmp};
 
 use crate::NoMemory;
 use std::alloc::Global;
@@ -26,7 +25,7 @@ pub struct TagWords {
 impl TagWords {
     /// Of no actions. It takes no memory.
     pub fn new(alloc: Global) -> TagWords
-        ensures { (given : Given) → GivesTags given result }
+        ensures { (at : TagAt) → get tag_cmp result.kept at ≡ None }
     {
         TagWords {
             kept: BTreeMap::new(alloc),
