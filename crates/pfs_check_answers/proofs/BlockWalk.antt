@@ -36,8 +36,8 @@ module _ (all : List Placed) (setting : Setting) (answers : Selection → List E
 
   module _ (at : ℕ) (spot : Spot) (text : Option (Bor (List ℕ))) (end : ℕ) (low : at < length texts) (few : at < length ends) (text_is : text ≡ get_or texts at text)
       (end_is : end ≡ get_or ends at end) (left : IsLeft at spot) where
-    asked_here : AreAsked all (selection_by text ∷ map selection_by (drop (at + 1) texts)) (own at spot end ∷ pieces end (drop (at + 1) ends) entries) (drop spot.answer given)
-    asked_here =
+    pub asked_line : AreAsked all (selection_by text ∷ map selection_by (drop (at + 1) texts)) (own at spot end ∷ pieces end (drop (at + 1) ends) entries) (drop spot.answer given)
+    asked_line =
         let s = split at spot text end low few text_is end_is in
         subst (λ z. AreAsked all z (own at spot end ∷ pieces end (drop (at + 1) ends) entries) (drop spot.answer given)) s.0
         (subst (λ z. AreAsked all (map selection_by (drop at texts)) z (drop spot.answer given)) s.1 left.asked)
@@ -49,9 +49,6 @@ module _ (all : List Placed) (setting : Setting) (answers : Selection → List E
         left.leaves told
         (subst (λ z. AreJudged setting answers spot.line (map selection_by (drop at texts)) z (drop spot.answer given) told) (sym s.1)
         (subst (λ z. AreJudged setting answers spot.line z (own at spot end ∷ pieces end (drop (at + 1) ends) entries) (drop spot.answer given) told) (sym s.0) judged))
-
-    pub asked_line : AreAsked all (selection_by text ∷ map selection_by (drop (at + 1) texts)) (own at spot end ∷ pieces end (drop (at + 1) ends) entries) (drop spot.answer given)
-    asked_line = asked_here
 
     pub on_line : (next : Spot)
         → IsStep all setting answers given spot end (selection_by text) (map selection_by (drop (at + 1) texts)) (own at spot end) (pieces end (drop (at + 1) ends) entries) (On next)

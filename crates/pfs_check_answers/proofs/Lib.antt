@@ -1,4 +1,5 @@
 mod AnswerLines
+pub mod AskedBlocks
 mod BlockWalk
 mod EntryReadings
 mod FreeWords

@@ -13,6 +13,7 @@ use Rattle.pfs_model.specs.EntryPlaces.{Placed}
 use Rattle.pfs_runs.specs.SelectAnswers.{Answer, Held, IsAnswered, Selection, Stored}
 use Rattle.pfs_check_answers.specs.AnswerJudgements.{IsJudged}
 use Rattle.pfs_check_answers.specs.BlockSelects.{AreAsked, AreJudged, IsAsked, IsBehind, IsStep}
+use Rattle.pfs_check_answers.specs.SelectParts.{IsCounted, IsQueryPart}
 use Rattle.pfs_check_answers.specs.declared.answered.Answered.{Answered}
 use Rattle.pfs_check_answers.specs.declared.answered.Answered.TheVariants.{Kept, Wrong as Amiss}
 use Rattle.pfs_check_answers.specs.declared.block_lines.Spot.{Spot}
@@ -24,6 +25,16 @@ use Rattle.pfs_check_answers.proofs.SelectSteps.{answered_reads, none_first, rig
 silent : (entry : Entry) → is_reading entry ≡ true → is_answered entry ≡ false
 silent (says.Rows number) h = absurd (false≢true h)
 silent _ h = refl
+
+-- one that reads the store says at last how many rows there are
+pub query_counted : (part : List Entry) → IsQueryPart part → IsCounted part
+query_counted part query = record {
+  opening = says.Query ∷ query.readings;
+  number = query.number;
+  none = All-cons (λ entry. is_answered entry ≡ false) says.Query query.readings refl
+      (All-weaker (λ entry. is_reading entry ≡ true) (λ entry. is_answered entry ≡ false) silent query.readings query.each);
+  told = query.told;
+}
 
 -- a SELECT has as many lines as entries and rows
 asked_count : (all : List Placed) (selection : Selection) (part : List Entry) (answer : Answer) → IsAsked all selection part answer

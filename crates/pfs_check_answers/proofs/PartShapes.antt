@@ -22,7 +22,7 @@ use Rattle.pfs_check_answers.proofs.AnswerLines.{NoneAnswered}
 
 -- ---- all that is asked for is in front of what is left
 
-record Front (ask : Ask) (entries rest : List Entry) : Type 0 where
+pub record Front (ask : Ask) (entries rest : List Entry) : Type 0 where
   pub front : List Entry
   pub are : entries ≡ front ++ rest
   pub fit : All (λ entry. fits ask entry ≡ true) front
@@ -51,7 +51,7 @@ Leaves result rest = result ≡ Ok rest
 same_rest : (entries rest : List Entry) → Leaves (Ok entries) rest → entries ≡ rest
 same_rest entries rest e = cc
 
-step_front : (often : Often) (ask : Ask) (entries rest : List Entry) → step often ask entries ≡ Ok rest → Front ask entries rest
+pub step_front : (often : Often) (ask : Ask) (entries rest : List Entry) → step often ask entries ≡ Ok rest → Front ask entries rest
 step_front One ask [] rest is = absurd (cc)
 step_front One ask (entry ∷ entries) rest is = on (fits ask entry) refl is where
   on : (b : Bool) → fits ask entry ≡ b → Leaves (cond b (Ok entries) (Err (entry ∷ entries))) rest → Front ask (entry ∷ entries) rest
@@ -66,11 +66,11 @@ step_front Many ask entries rest is = subst (Front ask entries) (same_rest (behi
 
 -- ---- what isn't asked as a number of rows has no answer
 
-abbrev is_other : Ask → Bool
+abbrev pub is_other : Ask → Bool
 is_other asks.Rows = false
 is_other _ = true
 
-abbrev are_other : List Item → Bool
+abbrev pub are_other : List Item → Bool
 are_other [] = true
 are_other (item ∷ items) = is_other item.ask && are_other items
 
@@ -81,7 +81,7 @@ no_answer ask (says.Rows number) other fit = absurd (at ask other fit) where
   at _ o f = absurd (cc)
 no_answer ask _ other fit = refl
 
-none_answered : (ask : Ask) (entries : List Entry) → is_other ask ≡ true → All (λ entry. fits ask entry ≡ true) entries → NoneAnswered entries
+pub none_answered : (ask : Ask) (entries : List Entry) → is_other ask ≡ true → All (λ entry. fits ask entry ≡ true) entries → NoneAnswered entries
 none_answered ask entries other all = λ k d low. no_answer ask _ other (all k d low)
 
 one_rows : (entries : List Entry) → cut (one asks.Rows ∷ []) entries ≡ Ok [] → (number : ℕ) × (entries ≡ says.Rows number ∷ [])
@@ -142,7 +142,7 @@ query_part context (entry ∷ entries) is = on entry (fits asks.Query entry) ref
         told = ap (λ z. z ∷ entries) (query_in entry fit) ∙ ap (λ z. says.Query ∷ z) (f.are ∙ ap (λ z. f.front ++ z) last.1);
       }
 
-settled_other : (rows : List ℕ) (items : List Item) → are_other items ≡ true → are_other (settling rows ++ items) ≡ true
+pub settled_other : (rows : List ℕ) (items : List Item) → are_other items ≡ true → are_other (settling rows ++ items) ≡ true
 settled_other [] items other = other
 settled_other (row ∷ rows) items other = on rows where
   on : (rows : List ℕ) → are_other (map added rows ++ items) ≡ true
